@@ -1,6 +1,14 @@
-// Terms of DL-Lite_R and the definitions that every contract cites.
+// The terms of DL-Lite_R: roles, concepts, axioms, facts, queries and their parts, and the definitions that contracts cite.
 #![tactic(auto)]
 
+mod axiom;
+mod list;
 mod memory;
+mod query;
+mod role;
 
+pub use axiom::{Axiom, Fact, Part, Signature};
+pub use list::List;
 pub use memory::NoMemory;
+pub use query::{Atom, Disjunct, Probe, Query, Term};
+pub use role::{Base, Basic, Negative, Normal, Role};

@@ -1,0 +1,40 @@
+use crate::List;
+
+/// A role name: one of the input, or the filler of a role and a class, which stands for the members of a class that some role leads to.
+#[derive(Clone, Copy, Debug, PartialEq, Eq, PartialOrd, Ord, Hash)]
+pub enum Base {
+    /// An object property, by its number.
+    Named(u32),
+    /// The filler of the role `role`, or of its inverse, and of the class `class`.
+    Filler { role: u32, inverse: bool, class: u32 },
+}
+
+/// A role of DL-Lite_R: a role name, or the inverse of one.
+#[derive(Clone, Copy, Debug, PartialEq, Eq, PartialOrd, Ord, Hash)]
+pub struct Role {
+    pub base: Base,
+    pub inverse: bool,
+}
+
+/// A basic concept of DL-Lite_R: a class, or what has a neighbour by a role.
+#[derive(Clone, Copy, Debug, PartialEq, Eq, PartialOrd, Ord, Hash)]
+pub enum Basic {
+    Class(u32),
+    SomeOf(Role),
+}
+
+/// What no model has: an element in two basic concepts, a pair in two roles, or a loop of a role.
+#[derive(Clone, Copy, Debug, PartialEq, Eq, PartialOrd, Ord, Hash)]
+pub enum Negative {
+    Basics(Basic, Basic),
+    Roles(Role, Role),
+    NoLoop(Role),
+}
+
+/// The normal form of a list of axioms: inclusions of roles, inclusions of basic concepts, and negatives, each beside the place of its axiom.
+#[derive(Drop, Debug, PartialEq, Eq)]
+pub struct Normal {
+    pub roles: List<(Role, Role)>,
+    pub concepts: List<(Basic, Basic)>,
+    pub negatives: List<(u32, Negative)>,
+}
