@@ -6,9 +6,13 @@ mod list;
 mod memory;
 mod query;
 mod role;
+mod steps;
+mod tuples;
 
 pub use axiom::{Axiom, Fact, Part, Signature};
 pub use list::List;
 pub use memory::NoMemory;
 pub use query::{Atom, Disjunct, Probe, Query, Term};
 pub use role::{Base, Basic, Negative, Normal, Role};
+pub use steps::Steps;
+pub use tuples::{Pair, Tuples};

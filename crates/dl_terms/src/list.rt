@@ -27,7 +27,9 @@ impl<T> List<T> {
     pub fn new(alloc: Global) -> List<T>
         ensures { result ≡ [] }
     {
-        List { items: Vec::new(alloc) }
+        List {
+            items: Vec::new(alloc),
+        }
     }
 
     /// How many items there are.

@@ -6,7 +6,11 @@ pub enum Base {
     /// An object property, by its number.
     Named(u32),
     /// The filler of the role `role`, or of its inverse, and of the class `class`.
-    Filler { role: u32, inverse: bool, class: u32 },
+    Filler {
+        role: u32,
+        inverse: bool,
+        class: u32,
+    },
 }
 
 /// A role of DL-Lite_R: a role name, or the inverse of one.

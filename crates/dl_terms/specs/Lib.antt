@@ -1,0 +1,9 @@
+pub mod Roles
+pub mod NormalForm
+pub mod Chain
+pub mod Below
+pub mod Structure
+pub mod Answers
+pub mod Broken
+pub mod Reply
+pub mod Table
