@@ -7,3 +7,6 @@ pub mod Answers
 pub mod Broken
 pub mod Reply
 pub mod Table
+pub mod Order
+pub mod Sets
+pub mod Renamed
