@@ -1,0 +1,5 @@
+pub mod NameListLemmas
+pub mod FrozenLemmas
+pub mod SetLemmas
+pub mod SearchLemmas
+pub mod ArrangeLemmas
