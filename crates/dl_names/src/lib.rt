@@ -9,3 +9,6 @@ mod set;
 pub use fault::NameFault;
 pub use frozen::{Names, Ranks};
 pub use set::{MAX_NAMES, NameSet};
+
+#[cfg(test)]
+mod tests;

@@ -1,4 +1,4 @@
-ghost use Rattle.std.specs.Prelude.{◌≡◌, ◌+◌, ◌<◌, ◌≤◌, ◌↔◌, [], length, false, IfOk, OnOk, OnErr};
+ghost use Rattle.std.specs.Prelude.{◌≡◌, ◌+◌, ◌<◌, ◌≤◌, ◌↔◌, [], length, true, false, IsOk, IfOk, OnOk, OnErr};
 ghost use Rattle.dl_names.specs.NameList.{added, has_name, place_of, HasNoRepeats};
 ghost use Rattle.dl_names.specs.Frozen.{IsFrozen};
 
@@ -41,12 +41,14 @@ impl NameSet {
     }
 
     /// The place of the text: how many names were met before it. A text that isn't among the names becomes the last one.
-    /// `Full` where `MAX_NAMES` names are there and the text is none of them. After an error the names are as before.
+    /// `Full` exactly where `MAX_NAMES` names are there and the text is none of them. `NoMemory` comes only for a new text.
+    /// After an error the names are as before.
     pub fn add(&mut self, text: &str) -> Result<u32, NameFault>
         ensures named { OnOk result (self.new ≡ added self.old text.now) }
         ensures place { IfOk result (λ place. place ≡ place_of (added self.old text.now) text.now) }
         ensures within { IfOk result (λ place. place < length self.new) }
 
+        ensures known { has_name self.old text.now ≡ true → IsOk result }
         ensures full { (result ≡ Err NameFault.Full) ↔ ((length self.old ≡ MAX_NAMES) × (has_name self.old text.now ≡ false)) }
         ensures err { OnErr result (self.new ≡ self.old) }
 
@@ -65,7 +67,7 @@ impl NameSet {
         Ok(count as u32)
     }
 
-    /// The names in byte order, and the rank of each place among them.
+    /// The names in byte order, and the rank of each place among them. Memory is all that may be wanting.
     pub fn freeze(self) -> Result<(Names, Ranks), NoMemory>
         ensures { IfOk result (λ frozen. IsFrozen self frozen.0 frozen.1) }
     {

@@ -47,3 +47,12 @@ invariant_of-self-2 c =
     let here = length_shown c.self.inside.texts.keys _ c.self.view_is in
     let there = length_shown c.insert.new.self.keys _ (returns-clause-named c) in
     (returns-clause-distinct c, omega (arith, longer, here, there, c.self.invariant.1, c.len-count.ensures.len, c.if-count.false))
+
+pub returns-then-count-clause-known : goal.returns-then-count-clause-known
+returns-then-count-clause-known c = λ known. absurd (true≢false (sym known ∙ has_name_shown c.self.inside.texts.keys _ c.self.view_is c.args.text.now ∙ sym c.in_default.ensures.found))
+
+pub returns-in_err-owned-clause-known : goal.returns-in_err-owned-clause-known
+returns-in_err-owned-clause-known c = λ known. absurd (true≢false (sym known ∙ has_name_shown c.self.inside.texts.keys _ c.self.view_is c.args.text.now ∙ sym c.in_default.ensures.found))
+
+pub returns-in_err-insert-clause-known : goal.returns-in_err-insert-clause-known
+returns-in_err-insert-clause-known c = λ known. absurd (true≢false (sym known ∙ has_name_shown c.self.inside.texts.keys _ c.self.view_is c.args.text.now ∙ sym c.in_default.ensures.found))
