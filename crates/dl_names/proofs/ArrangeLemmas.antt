@@ -1,5 +1,5 @@
 -- How pairs of a text and its place give names in order and ranks.
-use Rattle.std.proofs.Common.{◌≡◌, ◌≢◌, ℕ, ◌+◌, ◌<◌, ◌⊎◌, Bool, true, false, All, Contains, nat_eq, length, map, get_or, slice_index, slice_set, slice_get, List, Some, String, Global, string_bytes, AllPairs, refl, sym, ap, subst, inl, inr, ◌∙◌, true≢false, arith}
+use Rattle.std.proofs.Common.{◌≡◌, ◌≢◌, ℕ, ◌+◌, ◌<◌, ◌⊎◌, true, false, All, Contains, nat_eq, length, map, get_or, slice_index, slice_set, slice_get, List, Some, String, Global, string_bytes, AllPairs, sym, ap, subst, inl, inr, ◌∙◌, true≢false, arith}
 use borrow.Author.Tests.{eqb-true}
 use Rattle.std.specs.declared.cmp.Ordering.TheVariants.{Less}
 use Rattle.std.specs.List.{IsDistinct}
@@ -16,7 +16,7 @@ use Rattle.std.proofs.lemmas.Option.{get_or_from_slice_get, slice_get_within, sl
 use Rattle.dl_names.specs.NameList.{Text, has_name, place_of, HasNoRepeats}
 use Rattle.dl_names.specs.Frozen.{text_cmp, IsBefore, IsAscending, IsFrozen}
 use Rattle.dl_names.specs.Arrange.{IsNumbered}
-use Rattle.dl_names.proofs.NameListLemmas.{same_place, place_of-lt, slice_get-place_of, has_name-slice_get}
+use Rattle.dl_names.proofs.NameListLemmas.{same_test, same_place, place_of-lt, slice_get-place_of, has_name-slice_get}
 use Rattle.dl_names.proofs.FrozenLemmas.{IsBefore_cases}
 
 -- a pair of a text and a place
@@ -91,12 +91,6 @@ IsPairsOf-IsPermutation set pairs other moved of = record {
   apart = IsDistinct-IsPermutation nat_eq nat_eq_equiv.symm _ _ (IsPermutation-map (λ pair. pair.1) pairs other moved) of.apart;
   each = λ place within. Contains-permutation _ _ place (IsPermutation-map (λ pair. pair.1) pairs other moved) (of.each place within);
 }
-
--- two tests that follow from each other are the same
-same_test : (a b : Bool) → (a ≡ true → b ≡ true) → (b ≡ true → a ≡ true) → a ≡ b
-same_test true b one other = sym (one refl)
-same_test false true one other = other refl
-same_test false false one other = refl
 
 -- a pair whose text differs from that of the pair that is sorted after it has the text before it
 before_next : (p q : Pair) → (string_bytes p.0 ≡ string_bytes q.0 → ⊥) → is_lt (ordering_then (string_cmp q.0 p.0) (nat_cmp q.1 p.1)) ≡ false → IsBefore (string_bytes p.0) (string_bytes q.0)

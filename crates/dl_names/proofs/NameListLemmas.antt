@@ -62,6 +62,12 @@ module _ {X : Type 0} (p : X → Bool) where
 
 -- ---- texts
 
+-- two tests that follow from each other are the same
+pub same_test : (a b : Bool) → (a ≡ true → b ≡ true) → (b ≡ true → a ≡ true) → a ≡ b
+same_test true b one other = sym (one refl)
+same_test false true one other = other refl
+same_test false false one other = refl
+
 pub bytes_eq-same : (text : Text) → bytes_eq text text ≡ true
 bytes_eq-same text = (bytes_eq-Decides text text).1 refl
 
