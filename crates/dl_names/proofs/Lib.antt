@@ -1,0 +1,6 @@
+pub mod NameListLemmas
+pub mod FrozenLemmas
+pub mod SameFrozenLemmas
+pub mod SetLemmas
+pub mod SearchLemmas
+pub mod ArrangeLemmas

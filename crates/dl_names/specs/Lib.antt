@@ -1,0 +1,3 @@
+pub mod NameList
+pub mod Frozen
+pub mod Arrange

@@ -1,0 +1,14 @@
+// The names of a run: each text has a place by first occurrence, and, once all are known, a number by its rank in byte order.
+#![tactic(auto)]
+
+mod arrange;
+mod fault;
+mod frozen;
+mod set;
+
+pub use fault::NameFault;
+pub use frozen::{Names, Ranks};
+pub use set::{MAX_NAMES, NameSet};
+
+#[cfg(test)]
+mod tests;
