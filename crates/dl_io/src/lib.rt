@@ -1,0 +1,10 @@
+// What the product reads and writes: libraries of files and sinks of bytes, in memory and of the system.
+#![tactic(auto)]
+
+mod devices;
+mod whole;
+mod writing;
+
+pub use devices::{Failed, Library, Sink};
+pub use whole::{FileFault, MAX_BYTES, read_whole};
+pub use writing::write_all;
