@@ -2,9 +2,11 @@
 #![tactic(auto)]
 
 mod devices;
+mod safe;
 mod whole;
 mod writing;
 
 pub use devices::{Failed, Library, Sink};
+pub use safe::{SafeLibrary, SafeSink};
 pub use whole::{FileFault, MAX_BYTES, read_whole};
 pub use writing::write_all;
