@@ -3,3 +3,5 @@ pub mod Reading
 pub mod Writing
 pub mod Files
 pub mod Buffer
+pub mod Schedule
+pub mod Memory

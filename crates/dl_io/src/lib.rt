@@ -2,11 +2,14 @@
 #![tactic(auto)]
 
 mod devices;
+mod failures;
+mod faulty;
 mod safe;
 mod whole;
 mod writing;
 
 pub use devices::{Failed, Library, Sink};
+pub use faulty::{MemoryLibrary, MemorySink};
 pub use safe::{SafeLibrary, SafeSink};
 pub use whole::{FileFault, MAX_BYTES, read_whole};
 pub use writing::write_all;
