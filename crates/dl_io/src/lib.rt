@@ -5,11 +5,15 @@ mod devices;
 mod failures;
 mod faulty;
 mod safe;
+mod short;
+mod system;
 mod whole;
 mod writing;
 
 pub use devices::{Failed, Library, Sink};
 pub use faulty::{MemoryLibrary, MemorySink};
 pub use safe::{SafeLibrary, SafeSink};
+pub use short::{ShortLibrary, ShortSink};
+pub use system::{FileLibrary, OutSink};
 pub use whole::{FileFault, MAX_BYTES, read_whole};
 pub use writing::write_all;
