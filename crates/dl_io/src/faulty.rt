@@ -1,5 +1,5 @@
-ghost use Rattle.std.specs.Prelude.{ℕ, ◌≡◌, ◌≤◌, ◌↔◌, ◌⊎◌, List, [], length, take, true, false, Option, Some, None, IfOk, OnOk, OnErr, IsErr, is_ok, not, map, string_bytes, vec_capacity};
-ghost use Rattle.dl_io.specs.Files.{file_at, bytes_of, HaveDifferentNames, part_of, with_front};
+ghost use Rattle.std.specs.Prelude.{ℕ, ◌≡◌, ◌≤◌, ◌↔◌, ◌⊎◌, List, [], length, take, true, false, Option, Some, None, IfOk, OnOk, OnErr, IsErr, is_ok, not, vec_capacity};
+ghost use Rattle.dl_io.specs.Files.{files_of, file_at, bytes_of, HaveDifferentNames, part_of, with_front};
 ghost use Rattle.dl_io.specs.Buffer.{Buffer, told_bytes, after_piece};
 ghost use Rattle.dl_io.specs.Schedule.{FailsNext, after_call};
 ghost use Rattle.dl_io.specs.Memory.{FaultyFiles, FaultyBuffer};
@@ -26,8 +26,8 @@ impl MemoryLibrary {
     /// A library of these files, each with its name. `fails` has the numbers of the calls of `read`
     /// that are to fail, counted from 0.
     pub fn new(files: Vec<(String, Vec<u8>)>, fails: Vec<u64>) -> MemoryLibrary
-        requires { HaveDifferentNames (map (λ file. (string_bytes file.0, file.1.items)) files.items) }
-        ensures files { result.files ≡ map (λ file. (string_bytes file.0, file.1.items)) files.items }
+        requires { HaveDifferentNames (files_of files.items) }
+        ensures files { result.files ≡ files_of files.items }
         ensures schedule { result.schedule ≡ record { fails = fails.items; calls = 0; faults = 0 } }
     {
         MemoryLibrary {

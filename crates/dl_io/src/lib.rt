@@ -4,6 +4,7 @@
 mod devices;
 mod failures;
 mod faulty;
+mod names;
 mod safe;
 mod short;
 mod system;
@@ -12,6 +13,7 @@ mod writing;
 
 pub use devices::{Failed, Library, Sink};
 pub use faulty::{MemoryLibrary, MemorySink};
+pub use names::names_differ;
 pub use safe::{SafeLibrary, SafeSink};
 pub use short::{ShortLibrary, ShortSink};
 pub use system::{FileLibrary, OutSink};

@@ -1,5 +1,5 @@
-ghost use Rattle.std.specs.Prelude.{ℕ, ◌≡◌, ◌≤◌, List, [], length, take, Option, Some, Ok, IfOk, map, string_bytes, vec_capacity, option_copied, false};
-ghost use Rattle.dl_io.specs.Files.{file_at, bytes_of, HaveDifferentNames, part_of, with_front};
+ghost use Rattle.std.specs.Prelude.{ℕ, ◌≡◌, ◌≤◌, List, [], length, take, Option, Some, Ok, IfOk, vec_capacity, option_copied, false};
+ghost use Rattle.dl_io.specs.Files.{files_of, file_at, bytes_of, HaveDifferentNames, part_of, with_front};
 ghost use Rattle.dl_io.specs.Buffer.{Buffer, told_bytes, after_piece};
 
 use crate::devices::{Failed, Library, Sink};
@@ -14,14 +14,14 @@ pub struct SafeLibrary {
 impl Model for SafeLibrary {
     ghost Value = { List (List ℕ × List ℕ) };
 
-    ghost view = { λ library. map (λ file. (string_bytes file.0, file.1.items)) library.files.items };
+    ghost view = { λ library. files_of library.files.items };
 }
 
 impl SafeLibrary {
     /// A library of these files, each with its name.
     pub fn new(files: Vec<(String, Vec<u8>)>) -> SafeLibrary
-        requires { HaveDifferentNames (map (λ file. (string_bytes file.0, file.1.items)) files.items) }
-        ensures { result ≡ map (λ file. (string_bytes file.0, file.1.items)) files.items }
+        requires { HaveDifferentNames (files_of files.items) }
+        ensures { result ≡ files_of files.items }
     {
         SafeLibrary { files }
     }

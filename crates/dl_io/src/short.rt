@@ -1,5 +1,5 @@
-ghost use Rattle.std.specs.Prelude.{ℕ, ◌≡◌, List, [], length, take, Some, Ok, map, min, string_bytes, vec_capacity, false};
-ghost use Rattle.dl_io.specs.Files.{bytes_of, HaveDifferentNames, part_of, with_front};
+ghost use Rattle.std.specs.Prelude.{ℕ, ◌≡◌, List, [], length, take, Some, Ok, min, vec_capacity, false};
+ghost use Rattle.dl_io.specs.Files.{files_of, bytes_of, HaveDifferentNames, part_of, with_front};
 ghost use Rattle.dl_io.specs.Buffer.{Buffer, told_bytes, after_piece};
 
 use crate::devices::{Failed, Library, Sink};
@@ -22,8 +22,8 @@ impl Model for ShortLibrary {
 impl ShortLibrary {
     /// A library of these files, each with its name.
     pub fn new(files: Vec<(String, Vec<u8>)>) -> ShortLibrary
-        requires { HaveDifferentNames (map (λ file. (string_bytes file.0, file.1.items)) files.items) }
-        ensures { result ≡ map (λ file. (string_bytes file.0, file.1.items)) files.items }
+        requires { HaveDifferentNames (files_of files.items) }
+        ensures { result ≡ files_of files.items }
     {
         ShortLibrary {
             files: SafeLibrary::new(files),
