@@ -1,5 +1,5 @@
 use Rattle.dl_io.proofs.Answered.{IfOk-each, OnErr-anyway, HasRisen-counted}
-use Rattle.dl_io.proofs.system.OutSinkSink.TheImpl.Goals as goal
+use Rattle.dl_io.proofs.output.OutSinkSink.TheImpl.Goals as goal
 
 -- It tells nothing, so no clause on what it tells has anything to say.
 pub write-tells : goal.write-tells
