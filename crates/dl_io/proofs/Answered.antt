@@ -1,5 +1,5 @@
 -- What follows from a call's answer, whichever it is.
-use Rattle.std.proofs.Common.{◌≡◌, ℕ, ◌≤◌, Result, Ok, Err, IfOk, OnErr, is_ok, if◌then◌else◌, arith}
+use Rattle.std.proofs.Common.{◌≡◌, ℕ, Result, Ok, Err, IfOk, OnErr, is_ok, if◌then◌else◌, arith}
 use Rattle.dl_io.specs.Count.{raised, HasRisen}
 
 -- what holds of every value holds of the one in an `Ok`

@@ -1,5 +1,5 @@
 -- A buffer that has the first bytes of a file, and takes the next ones.
-use Rattle.std.proofs.Common.{◌≡◌, ℕ, ◌+◌, ◌≤◌, ◌<◌, List, ◌++◌, length, take, drop, sym, ap, ◌∙◌, subst, arith, Option, None, Some, IfSome, length-take, take_all, min}
+use Rattle.std.proofs.Common.{◌≡◌, ℕ, ◌+◌, ◌≤◌, List, ◌++◌, length, take, drop, sym, ap, ◌∙◌, subst, arith, Option, None, Some, IfSome, length-take, take_all}
 use Rattle.std.proofs.Math.Seq.{take-add}
 
 -- more than is there can't have been taken

@@ -1,4 +1,4 @@
-use Rattle.std.proofs.Common.{rules, arith}
+use Rattle.std.proofs.Common.{rules}
 use Rattle.dl_io.proofs.Pieces.{told_front_grows}
 use Rattle.dl_io.proofs.whole.read_whole.Goals as goal
 
