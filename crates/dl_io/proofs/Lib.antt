@@ -1,0 +1,4 @@
+pub mod Got
+pub mod Pieces
+pub mod Answered
+pub mod Different

@@ -1,0 +1,10 @@
+-- Counts of faults, as a counter of 64 bits keeps them.
+use Rattle.std.specs.Prelude.{ℕ, ◌+◌, ◌-◌, ◌^◌, ◌≤◌, min}
+
+-- the count after one more fault: it stops at the last number of 64 bits
+abbrev pub raised : ℕ → ℕ
+raised count = min (count + 1) (2 ^ 64 - 1)
+
+-- the count rose, or it stands at its end, where it can't rise any more
+abbrev pub HasRisen : ℕ → ℕ → Type 0
+HasRisen before now = min (before + 1) (2 ^ 64 - 1) ≤ now

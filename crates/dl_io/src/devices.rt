@@ -1,0 +1,54 @@
+ghost use Rattle.std.specs.Prelude.{ℕ, ◌≡◌, ◌<◌, ◌≤◌, List, [], length, take, IfOk, OnErr, IfSome, Option};
+ghost use Rattle.dl_io.specs.Count.{HasRisen};
+ghost use Rattle.dl_io.specs.Reading.{Copies, EndsAt};
+ghost use Rattle.dl_io.specs.Writing.{Gets};
+
+use std::fmt;
+
+/// The answer of a read or a write that failed. It says nothing of the cause.
+#[derive(Clone, Copy, Debug, PartialEq, Eq)]
+pub struct Failed;
+
+impl fmt::Display for Failed {
+    fn fmt<W: fmt::Write>(&self, f: &mut fmt::Formatter<W>) -> fmt::Result {
+        write!(f, "reading or writing failed")
+    }
+}
+
+impl std::error::Error for Failed {}
+
+/// Files, each with a name. Reading doesn't change what the library tells.
+pub trait Library {
+    // The bytes of each name, where the library tells them.
+    ghost told: { Self → Option (List ℕ → List ℕ) };
+    // How many faults there were so far. The count never falls.
+    ghost faults: { Self → ℕ };
+
+    /// Copies bytes of a file, from a place on, to the front of `buf`, and answers how many. For a
+    /// buffer that isn't empty the answer is 0 at the end of the file and nowhere else.
+    fn read(&mut self, name: &str, from: u64, buf: &mut [u8]) -> Result<usize, Failed>
+        ensures fits { IfOk result (λ n. n ≤ length buf.new) }
+        ensures copied { IfOk result (λ n. IfSome (told self.old) (λ file_of. Copies (file_of name.now) from n buf.new)) }
+        ensures end { IfOk result (λ n. IfSome (told self.old) (λ file_of. EndsAt (file_of name.now) from n buf.new)) }
+        ensures unchanged { told self.new ≡ told self.old }
+        ensures count { faults self.old ≤ faults self.new }
+        ensures failed { OnErr result (HasRisen (faults self.old) (faults self.new)) };
+}
+
+/// What takes bytes.
+pub trait Sink {
+    // The bytes that the sink got so far, where it tells them.
+    ghost got: { Self → Option (List ℕ) };
+    // How many faults there were so far. The count never falls.
+    ghost faults: { Self → ℕ };
+
+    /// Takes the first bytes of a piece, and answers how many: at least one where the piece isn't
+    /// empty. A sink that failed got nothing of the piece.
+    fn write(&mut self, piece: &[u8]) -> Result<usize, Failed>
+        ensures fits { IfOk result (λ n. n ≤ length piece.now) }
+        ensures some { IfOk result (λ n. 0 < length piece.now → 0 < n) }
+        ensures appended { IfOk result (λ n. Gets (got self.old) (got self.new) (take n piece.now)) }
+        ensures nothing { OnErr result (Gets (got self.old) (got self.new) []) }
+        ensures count { faults self.old ≤ faults self.new }
+        ensures failed { OnErr result (HasRisen (faults self.old) (faults self.new)) };
+}
