@@ -1,11 +1,10 @@
 -- One interval list for a set of numbers, and no shorter list of intervals.
-use Rattle.std.proofs.Common.{◌≡◌, ℕ, suc, ◌+◌, ◌<◌, ◌≤◌, ◌⊎◌, inl, inr, List, [], ◌∷◌, length, get_or, refl, sym, ap, ◌∙◌, subst, arith}
-use Rattle.std.specs.List.{All, Any, AllPairs}
+use Rattle.std.proofs.Common.{◌≡◌, ℕ, suc, ◌+◌, ◌<◌, ◌≤◌, ◌⊎◌, inl, inr, List, [], ◌∷◌, length, get_or, refl, sym, ap, ◌∙◌, arith}
 use Rattle.std.proofs.lemmas.Bool.{cases_order, cases_lt}
 use Rattle.std.proofs.lemmas.List.{get_or_default}
-use Rattle.std.proofs.lemmas.List.Elements.{All-head, All-tail}
-use Rattle.dl_intervals.specs.Intervals.{Interval, IsWithin, Holds, IsIntervalList, EndBelow, HoldSame, IsFewest}
-use Rattle.dl_intervals.proofs.Lists.{Any-cons, Any-first, Any-later, Any-nil, AllPairs-head, AllPairs-tail, pigeonhole}
+use Rattle.std.proofs.lemmas.List.Elements.{All-tail}
+use Rattle.dl_intervals.specs.Intervals.{Interval, IsWithin, Holds, IsIntervalList, HoldSame, IsFewest}
+use Rattle.dl_intervals.proofs.Lists.{Any-cons, Any-first, Any-later, Any-nil, AllPairs-tail, pigeonhole}
 
 -- the number after an interval is left out
 gap_at : (is : List Interval) (i k : ℕ) (d e : Interval) → IsIntervalList is → i < length is → k < length is → get_or is k e ≡ e → IsWithin ((get_or is i d).1 + 1) e → (i ≡ k) ⊎ ((i < k) ⊎ (k < i)) → ⊥

@@ -1,10 +1,9 @@
 -- What a binary search by the last numbers tells, and how many intervals fit below a limit.
-use Rattle.std.proofs.Common.{◌≡◌, ℕ, zero, suc, ◌+◌, ◌-◌, ◌<◌, ◌≤◌, ◌^◌, ◌⊎◌, inl, inr, Bool, true, false, ltb, List, length, get_or, refl, sym, ap, ◌∙◌, subst, arith}
-use Rattle.std.specs.List.{All, Any, AllPairs}
+use Rattle.std.proofs.Common.{◌≡◌, ℕ, zero, suc, ◌-◌, ◌<◌, ◌≤◌, ◌^◌, ◌⊎◌, inl, inr, true, false, ltb, List, length, get_or, sym, ap, ◌∙◌, subst, arith}
 use Rattle.std.specs.List.Sorted.{IsNonDecreasingBy, IsPartitionPoint}
 use Rattle.std.proofs.lemmas.List.{get_or_default}
 use Rattle.std.proofs.lemmas.Bool.{cases_lt, cases_eq, ltb-true, ltb-false}
-use Rattle.dl_intervals.specs.Intervals.{Interval, IsWithin, Holds, IsIntervalList, EndBelow}
+use Rattle.dl_intervals.specs.Intervals.{Interval, Holds, IsIntervalList, EndBelow}
 
 ends_rise_at : (is : List Interval) (s : IsIntervalList is) (i j : ℕ) (d : Interval) → j < length is → (i ≡ j) ⊎ (i < j) → (get_or is i d).1 ≤ (get_or is j d).1
 ends_rise_at is s i j d h (inl same) = rw same (omega arith)

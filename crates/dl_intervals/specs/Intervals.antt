@@ -1,6 +1,6 @@
 -- Intervals of numbers, and lists of them, as the semantic index of Rodríguez-Muro and Calvanese keeps the
 -- numbers below a predicate.
-use Rattle.std.specs.Prelude.{◌≡◌, ℕ, ◌+◌, ◌<◌, ◌≤◌, ◌↔◌, List, length, All, Any, AllPairs}
+use Rattle.std.specs.Prelude.{ℕ, ◌+◌, ◌<◌, ◌≤◌, ◌↔◌, List, length, All, Any, AllPairs}
 
 -- an interval: its first number and its last, both in it
 abbrev pub Interval : Type 0

@@ -1,4 +1,4 @@
-use Rattle.std.proofs.Common.{ltb, arith, rules, sym, ap, ◌∙◌, subst}
+use Rattle.std.proofs.Common.{ltb, arith, rules}
 use Rattle.std.proofs.lemmas.List.Sorted.{IsPartitionPoint-from_clause, IsPartitionedBy-ltb}
 use Rattle.std.proofs.lemmas.Bool.Decides.{nat_tests}
 use Rattle.dl_intervals.specs.Intervals.{Interval}
