@@ -1,0 +1,10 @@
+// Sets of numbers as lists of intervals that are sorted, disjoint and do not touch.
+#![tactic(auto)]
+
+mod intervals;
+mod memory;
+#[cfg(test)]
+mod tests;
+
+pub use intervals::{Intervals, ascends, interval_lists_are_unique_and_fewest};
+pub use memory::NoMemory;
