@@ -1,0 +1,4 @@
+pub mod Chains
+pub mod Marking
+pub mod Searching
+pub mod SortedEdges
