@@ -3,7 +3,9 @@ ghost use Rattle.std.specs.List.Sorted.{IsNonDecreasingBy, IsStrictlyIncreasing}
 ghost use Rattle.dl_reach.specs.Chain.{Chain};
 ghost use Rattle.dl_reach.specs.Digraph.{Digraph, IsEdge, EndsBelow};
 
+use crate::closure::Closure;
 use crate::memory::NoMemory;
+use crate::search::{marked_nodes, reached};
 use std::alloc::{AllocError, Global};
 use std::marker::Model;
 
@@ -44,11 +46,42 @@ impl Graph {
         })
     }
 
+    /// The nodes to which a chain of edges leads from this one, ascending. The empty chain counts.
+    /// Fails only for want of memory.
+    pub fn reach(&self, alloc: Global, from: u32) -> Result<Vec<u32>, NoMemory>
+        requires { from < self.now.nodes }
+        ensures ascending { IfOk result (λ found. IsStrictlyIncreasing found.items) }
+        ensures exact { IfOk result
+            (λ found. (node : ℕ) → Contains found.items node ↔ Chain (IsEdge self.now) from node) }
+    {
+        let seen = reached(alloc, self.nodes, &self.edges, from)?;
+        Ok(marked_nodes(alloc, &seen)?)
+    }
+
+    /// Which nodes chains of edges lead to, from each node at once. Fails only for want of memory.
+    pub fn closure(&self, alloc: Global) -> Result<Closure, NoMemory>
+        ensures { IfOk result (λ closure. closure ≡ self.now) }
+    {
+        let graph = Graph {
+            nodes: self.nodes,
+            edges: Vec::from_slice(alloc, &self.edges)?,
+        };
+        Ok(Closure::of(alloc, graph)?)
+    }
+
+    /// The edges, sorted by their first node.
+    pub fn edges(&self) -> &[(u32, u32)]
+        ensures edges { result.now ≡ self.now.edges }
+        ensures sorted { IsNonDecreasingBy (λ e. e.0) result.now }
+        ensures in_range { EndsBelow self.now.nodes result.now }
+    {
+        &self.edges
+    }
+
     /// How many nodes there are: the nodes are the numbers below.
     pub fn nodes(&self) -> u32
         ensures count { result ≡ self.now.nodes }
         ensures few { result ≤ 16384 }
-        ensures in_range { EndsBelow self.now.nodes self.now.edges }
     {
         self.nodes
     }

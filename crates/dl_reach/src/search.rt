@@ -1,6 +1,6 @@
 // The plain search: from a node along the edges, to each node once.
-ghost use Rattle.std.specs.Prelude.{◌≡◌, ℕ, ◌+◌, ◌-◌, ◌^◌, ◌<◌, ◌≤◌, ◌↔◌, [], ◌∷◌, length, map, IfOk, OnOk, All};
-ghost use Rattle.std.specs.List.Sorted.{IsNonDecreasingBy};
+ghost use Rattle.std.specs.Prelude.{◌≡◌, ℕ, ◌+◌, ◌-◌, ◌^◌, ◌<◌, ◌≤◌, ◌↔◌, [], ◌∷◌, length, map, IfOk, OnOk, All, Contains};
+ghost use Rattle.std.specs.List.Sorted.{IsNonDecreasingBy, IsStrictlyIncreasing};
 ghost use Rattle.dl_reach.specs.Chain.{Chain};
 ghost use Rattle.dl_reach.specs.Digraph.{EndsBelow, Leads};
 ghost use Rattle.dl_reach.specs.Search.{IsMarked, AreMarked, Marks};
@@ -62,4 +62,20 @@ fn mark(node: u32, seen: &mut [bool], found: &mut Vec<u32>) -> Result<(), AllocE
         seen[node as usize] = true;
     }
     Ok(())
+}
+
+/// The marked nodes, ascending.
+pub fn marked_nodes(alloc: Global, seen: &[bool]) -> Result<Vec<u32>, AllocError>
+    requires { length seen.now ≤ 16384 }
+    ensures ascending { IfOk result (λ nodes. IsStrictlyIncreasing nodes.items) }
+    ensures exact { IfOk result
+        (λ nodes. (node : ℕ) → Contains nodes.items node ↔ IsMarked seen.now node) }
+{
+    let mut nodes = Vec::new(alloc);
+    for (node, mark) in seen.iter().enumerate() {
+        if *mark {
+            nodes.push(node as u32)?;
+        }
+    }
+    Ok(nodes)
 }
