@@ -41,25 +41,26 @@ module _ (words : List ℕ) (width row column : ℕ) (fits : HasRow words width 
   unfolding place marked
   bit_elsewhere a b h ne =
       ⊎_elim
-          (λ (e : a * width + b / 64 ≡ place).
-              let same = same_from_place a (b / 64) row (column / 64) width (word_below width b h) (word_below width column inside) e in
-              let other : b % 64 ≢ column % 64 = λ q. ne same.0 (same_column b column same.1 q) in
-              ap (λ (i : ℕ). bit_at (get_or marked i 0) (b % 64)) e ∙ (ap (λ (v : ℕ). bit_at v (b % 64)) word_at ∙ (bit_at_set_other w64 (get_or words place 0) (column % 64) (bit_below column) (b % 64) other ∙ ap (λ (i : ℕ). bit_at (get_or words i 0) (b % 64)) (sym e))))
-          (λ (apart : a * width + b / 64 ≢ place). ap (λ (v : ℕ). bit_at v (b % 64)) (get_or-set_other words place (a * width + b / 64) (bit_or (get_or words place 0) (1 * 2 ^ (column % 64) % 18446744073709551616)) 0 apart))
-          (cases_eq (a * width + b / 64) place)
+      (λ (e : a * width + b / 64 ≡ place).
+      let same = same_from_place a (b / 64) row (column / 64) width (word_below width b h) (word_below width column inside) e in
+      let other : b % 64 ≢ column % 64 = λ q. ne same.0 (same_column b column same.1 q) in
+      ap (λ (i : ℕ). bit_at (get_or marked i 0) (b % 64)) e ∙ (ap (λ (v : ℕ). bit_at v (b % 64)) word_at ∙ (bit_at_set_other w64 (get_or words place 0) (column % 64) (bit_below column) (b % 64) other ∙ ap (λ (i : ℕ). bit_at (get_or words i 0) (b % 64)) (sym e))))
+      (λ (apart : a * width + b / 64 ≢ place). ap (λ (v : ℕ). bit_at v (b % 64)) (get_or-set_other words place (a * width + b / 64) (bit_or (get_or words place 0) (1 * 2 ^ (column % 64) % 18446744073709551616)) 0 apart))
+      (cases_eq (a * width + b / 64) place)
 
   at_the_bit : (a b : ℕ) → a ≡ row → b ≡ column → HasBit marked width a b
   unfolding place
   at_the_bit a b p q = record {
-      in_row = subst (λ (x : ℕ). x < 64 * width) (sym q) inside;
-      is_set = subst (λ (x : ℕ). bit_at (get_or marked (x * width + b / 64) 0) (b % 64) ≡ 1) (sym p) (subst (λ (x : ℕ). bit_at (get_or marked (row * width + x / 64) 0) (x % 64) ≡ 1) (sym q) bit_here);
+    in_row = subst (λ (x : ℕ). x < 64 * width) (sym q) inside;
+    is_set = subst (λ (x : ℕ). bit_at (get_or marked (x * width + b / 64) 0) (b % 64) ≡ 1) (sym p) (subst (λ (x : ℕ). bit_at (get_or marked (row * width + x / 64) 0) (x % 64) ≡ 1) (sym q) bit_here);
   }
 
   bits_set : (a b : ℕ) → HasBit marked width a b ↔ (HasBit words width a b ⊎ ((a ≡ row) × (b ≡ column)))
-  bits_set a b =
-      ( λ h. ⊎_elim (λ (p : a ≡ row). ⊎_elim (λ (q : b ≡ column). inr (p, q)) (λ (q : b ≢ column). inl (record { in_row = h.in_row; is_set = sym (bit_elsewhere a b h.in_row (λ _ e. q e)) ∙ h.is_set })) (cases_eq b column)) (λ (p : a ≢ row). inl (record { in_row = h.in_row; is_set = sym (bit_elsewhere a b h.in_row (λ e _. p e)) ∙ h.is_set })) (cases_eq a row)
-      , λ s.
-          ⊎_elim (λ (h : HasBit words width a b). ⊎_elim (λ (p : a ≡ row). ⊎_elim (λ (q : b ≡ column). at_the_bit a b p q) (λ (q : b ≢ column). record { in_row = h.in_row; is_set = bit_elsewhere a b h.in_row (λ _ e. q e) ∙ h.is_set }) (cases_eq b column)) (λ (p : a ≢ row). record { in_row = h.in_row; is_set = bit_elsewhere a b h.in_row (λ e _. p e) ∙ h.is_set }) (cases_eq a row)) (λ (w : (a ≡ row) × (b ≡ column)). at_the_bit a b w.0 w.1) s )
+  bits_set a b = (
+    λ h. ⊎_elim (λ (p : a ≡ row). ⊎_elim (λ (q : b ≡ column). inr (p, q)) (λ (q : b ≢ column). inl (record { in_row = h.in_row; is_set = sym (bit_elsewhere a b h.in_row (λ _ e. q e)) ∙ h.is_set })) (cases_eq b column)) (λ (p : a ≢ row). inl (record { in_row = h.in_row; is_set = sym (bit_elsewhere a b h.in_row (λ e _. p e)) ∙ h.is_set })) (cases_eq a row),
+    λ s.
+        ⊎_elim (λ (h : HasBit words width a b). ⊎_elim (λ (p : a ≡ row). ⊎_elim (λ (q : b ≡ column). at_the_bit a b p q) (λ (q : b ≢ column). record { in_row = h.in_row; is_set = bit_elsewhere a b h.in_row (λ _ e. q e) ∙ h.is_set }) (cases_eq b column)) (λ (p : a ≢ row). record { in_row = h.in_row; is_set = bit_elsewhere a b h.in_row (λ e _. p e) ∙ h.is_set }) (cases_eq a row)) (λ (w : (a ≡ row) × (b ≡ column)). at_the_bit a b w.0 w.1) s,
+  )
 
 -- the bits after one is set
 pub HasBit-set : (words : List ℕ) (width row column : ℕ) → HasRow words width row → column < 64 * width → (a b : ℕ) → HasBit (set words (row * width + column / 64) (bit_or (get_or words (row * width + column / 64) 0) (1 * 2 ^ (column % 64) % 18446744073709551616))) width a b ↔ (HasBit words width a b ⊎ ((a ≡ row) × (b ≡ column)))
@@ -104,9 +105,9 @@ module _ (width into from : ℕ) (apart : into ≢ from) (old : List ℕ) (fits 
   unfolding next
   next_united i l =
       ⊎_elim
-          (λ (e : i ≡ n). subst (λ (x : ℕ). get_or (set new (into * width + n) both) (into * width + x) 0 ≡ bit_or (get_or old (into * width + x) 0) (get_or old (from * width + x) 0)) (sym e) (get_or-set_same new (into * width + n) both 0 at_below ∙ both_is))
-          (λ (ne : i ≢ n). get_or-set_other new (into * width + n) (into * width + i) both 0 (λ e. ne (omega arith)) ∙ h.united i (omega arith))
-          (cases_eq i n)
+      (λ (e : i ≡ n). subst (λ (x : ℕ). get_or (set new (into * width + n) both) (into * width + x) 0 ≡ bit_or (get_or old (into * width + x) 0) (get_or old (from * width + x) 0)) (sym e) (get_or-set_same new (into * width + n) both 0 at_below ∙ both_is))
+      (λ (ne : i ≢ n). get_or-set_other new (into * width + n) (into * width + i) both 0 (λ e. ne (omega arith)) ∙ h.united i (omega arith))
+      (cases_eq i n)
 
   next_len : length next ≡ length old
   unfolding next
@@ -124,11 +125,11 @@ module _ (width into from : ℕ) (apart : into ≢ from) (old : List ℕ) (fits 
   rose_next ne =
       let up : word ≤ both = le_or_l word (get_or new (from * width + n) 0) in
       record {
-          len = next_len;
-          others = next_others;
-          united = next_united;
-          rose = λ _. let s = next_sum in let l = old_le_new in omega arith;
-          same = λ e. absurd (false≢true (sym e));
+        len = next_len;
+        others = next_others;
+        united = next_united;
+        rose = λ _. let s = next_sum in let l = old_le_new in omega arith;
+        same = λ e. absurd (false≢true (sym e));
       }
 
   same_list : both ≡ word → next ≡ new
@@ -138,11 +139,11 @@ module _ (width into from : ℕ) (apart : into ≢ from) (old : List ℕ) (fits 
   same_next : both ≡ word → United width into from old next (n + 1) changed
   same_next e =
       record {
-          len = next_len;
-          others = next_others;
-          united = next_united;
-          rose = λ t. subst (λ (x : List ℕ). sum old < sum x) (sym (same_list e)) (h.rose t);
-          same = λ f. same_list e ∙ h.same f;
+        len = next_len;
+        others = next_others;
+        united = next_united;
+        rose = λ t. subst (λ (x : List ℕ). sum old < sum x) (sym (same_list e)) (h.rose t);
+        same = λ f. same_list e ∙ h.same f;
       }
 
 -- a word that gained bits
@@ -174,21 +175,22 @@ row_gains width into from old new n changed h whole b l s =
 
 -- the bits after a whole row is united into another
 pub HasBit-united : (width into from : ℕ) (old new : List ℕ) (n : ℕ) (changed : Bool) → United width into from old new n changed → width ≤ n → (a b : ℕ) → HasBit new width a b ↔ (HasBit old width a b ⊎ ((a ≡ into) × HasBit old width from b))
-HasBit-united width into from old new n changed h whole a b =
-    ( λ s.
-        let w = word_below width b s.in_row in
-        ⊎_elim
-            (λ (e : a ≡ into).
-                let row = subst (λ (x : ℕ). bit_at (get_or new (x * width + b / 64) 0) (b % 64) ≡ 1) e s.is_set in
-                ⊎_elim (λ (l : bit_at (get_or old (into * width + b / 64) 0) (b % 64) ≡ 1). inl (record { in_row = s.in_row; is_set = subst (λ (x : ℕ). bit_at (get_or old (x * width + b / 64) 0) (b % 64) ≡ 1) (sym e) l })) (λ (r : bit_at (get_or old (from * width + b / 64) 0) (b % 64) ≡ 1). inr (e, record { in_row = s.in_row; is_set = r })) (or_bit _ _ _ (b % 64) (h.united (b / 64) (omega arith)) row))
-            (λ (ne : a ≢ into). inl (record { in_row = s.in_row; is_set = ap (λ (v : ℕ). bit_at v (b % 64)) (sym (h.others a (b / 64) w (λ e. absurd (ne e)))) ∙ s.is_set }))
-            (cases_eq a into)
-    , λ s.
-        ⊎_elim
-            (λ (l : HasBit old width a b).
-                ⊎_elim
-                    (λ (e : a ≡ into). subst (λ (x : ℕ). HasBit new width x b) (sym e) (row_gains width into from old new n changed h whole b l.in_row (inl (subst (λ (x : ℕ). bit_at (get_or old (x * width + b / 64) 0) (b % 64) ≡ 1) e l.is_set))))
-                    (λ (ne : a ≢ into). record { in_row = l.in_row; is_set = ap (λ (v : ℕ). bit_at v (b % 64)) (h.others a (b / 64) (word_below width b l.in_row) (λ e. absurd (ne e))) ∙ l.is_set })
-                    (cases_eq a into))
-            (λ (r : (a ≡ into) × HasBit old width from b). subst (λ (x : ℕ). HasBit new width x b) (sym r.0) (row_gains width into from old new n changed h whole b r.1.in_row (inr r.1.is_set)))
-            s )
+HasBit-united width into from old new n changed h whole a b = (
+  λ s.
+      let w = word_below width b s.in_row in
+      ⊎_elim
+      (λ (e : a ≡ into).
+      let row = subst (λ (x : ℕ). bit_at (get_or new (x * width + b / 64) 0) (b % 64) ≡ 1) e s.is_set in
+      ⊎_elim (λ (l : bit_at (get_or old (into * width + b / 64) 0) (b % 64) ≡ 1). inl (record { in_row = s.in_row; is_set = subst (λ (x : ℕ). bit_at (get_or old (x * width + b / 64) 0) (b % 64) ≡ 1) (sym e) l })) (λ (r : bit_at (get_or old (from * width + b / 64) 0) (b % 64) ≡ 1). inr (e, record { in_row = s.in_row; is_set = r })) (or_bit _ _ _ (b % 64) (h.united (b / 64) (omega arith)) row))
+      (λ (ne : a ≢ into). inl (record { in_row = s.in_row; is_set = ap (λ (v : ℕ). bit_at v (b % 64)) (sym (h.others a (b / 64) w (λ e. absurd (ne e)))) ∙ s.is_set }))
+      (cases_eq a into),
+  λ s.
+      ⊎_elim
+      (λ (l : HasBit old width a b).
+      ⊎_elim
+      (λ (e : a ≡ into). subst (λ (x : ℕ). HasBit new width x b) (sym e) (row_gains width into from old new n changed h whole b l.in_row (inl (subst (λ (x : ℕ). bit_at (get_or old (x * width + b / 64) 0) (b % 64) ≡ 1) e l.is_set))))
+      (λ (ne : a ≢ into). record { in_row = l.in_row; is_set = ap (λ (v : ℕ). bit_at v (b % 64)) (h.others a (b / 64) (word_below width b l.in_row) (λ e. absurd (ne e))) ∙ l.is_set })
+      (cases_eq a into))
+      (λ (r : (a ≡ into) × HasBit old width from b). subst (λ (x : ℕ). HasBit new width x b) (sym r.0) (row_gains width into from old new n changed h whole b r.1.in_row (inr r.1.is_set)))
+      s,
+)

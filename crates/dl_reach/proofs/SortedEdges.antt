@@ -1,8 +1,10 @@
 -- Lists of edges that are sorted by their first node.
-use Rattle.std.proofs.Common.{◌≡◌, ℕ, ◌+◌, ◌-◌, ◌<◌, ◌≤◌, ◌↔◌, List, length, take, drop, get_or, Contains, refl, sym, ap, ◌∙◌, subst, inl, inr, ⊎_elim, arith, min}
+use Rattle.std.proofs.Common.{◌≡◌, ℕ, ◌+◌, ◌-◌, ◌<◌, ◌≤◌, ◌↔◌, ◌++◌, Bool, true, false, cond, All, List, length, take, drop, get_or, Contains, refl, sym, ap, ◌∙◌, subst, inl, inr, ⊎_elim, arith, min}
 use Rattle.std.specs.List.{AllWithin}
 use Rattle.std.proofs.lemmas.List.{length-take, length-drop, get_or-take, get_or-drop}
+use Rattle.std.proofs.lemmas.List.Elements.{All-append, All-contains, Contains-get_or}
 use Rattle.std.proofs.lemmas.Bool.{cases_lt}
+use Rattle.dl_reach.specs.Digraph.{EndsBelow}
 
 module _ (xs : List (ℕ × ℕ)) (lo hi node : ℕ) (fits : hi ≤ length xs) where
   part_length : length (take (hi - lo) (drop lo xs)) ≡ hi - lo
@@ -37,3 +39,14 @@ module _ (xs : List (ℕ × ℕ)) (lo hi node : ℕ) (fits : hi ≤ length xs) w
 pub start_le_end : (xs : List (ℕ × ℕ)) (lo hi node : ℕ) → lo ≤ length xs → AllWithin (λ e. e.0 < node) xs 0 lo → AllWithin (λ e. node + 1 ≤ e.0) xs hi (length xs) → lo ≤ hi
 start_le_end xs lo hi node fits below high =
     ⊎_elim (λ (h : hi < lo). let b = below hi (0, 0) (omega arith) h in let a = high hi (0, 0) (omega arith) (omega arith) in omega arith) (λ (h : lo ≤ hi). h) (cases_lt hi lo)
+
+-- some of the edges have their ends below, too
+pub ends_from : (nodes : ℕ) (edges out : List (ℕ × ℕ)) (node : ℕ) → EndsBelow nodes edges → ((e : ℕ × ℕ) → Contains out e ↔ (Contains edges e × (e.0 ≡ node))) → EndsBelow nodes out
+ends_from nodes edges out node ends leaves = λ k d h.
+    let among = (leaves (get_or out k d)).0 (Contains-get_or out k d h) in
+    All-contains (λ (e : ℕ × ℕ). (e.0 < nodes) × (e.1 < nodes)) edges (get_or out k d) ends among.0
+
+-- pairs with their ends below, with more or, where memory failed, without
+pub ends_more : (nodes : ℕ) (pairs more all : List (ℕ × ℕ)) (stored : Bool) → all ≡ cond stored (pairs ++ more) pairs → EndsBelow nodes pairs → EndsBelow nodes more → EndsBelow nodes all
+ends_more nodes pairs more all true e p q = rw e (All-append (λ (e : ℕ × ℕ). (e.0 < nodes) × (e.1 < nodes)) pairs more p q)
+ends_more nodes pairs more all false e p q = rw e p

@@ -25,9 +25,9 @@ impl Model for Closure {
     ghost view = { λ c. c.graph };
 
     ghost invariant = { λ c. record {
-        wide : c.graph.nodes ≤ 64 * c.width;
-        len : length c.words.items ≡ c.graph.nodes * c.width;
-        chains : HasChains c.words.items c.width c.graph.nodes c.graph.edges;
+      wide : c.graph.nodes ≤ 64 * c.width;
+      len : length c.words.items ≡ c.graph.nodes * c.width;
+      chains : HasChains c.words.items c.width c.graph.nodes c.graph.edges;
     } };
 }
 
@@ -86,13 +86,7 @@ fn chain_bits(
 }
 
 // Sets the bits of all chains. The order only makes the last loop short: it may be any pairs of nodes.
-fn fill(
-    words: &mut [u64],
-    width: usize,
-    nodes: u32,
-    edges: &[(u32, u32)],
-    order: &[(u32, u32)],
-)
+fn fill(words: &mut [u64], width: usize, nodes: u32, edges: &[(u32, u32)], order: &[(u32, u32)])
     requires empty { (a b : ℕ) → HasBit words.old width a b → ⊥ }
     requires len { length words.old ≡ nodes * width }
     requires wide { nodes ≤ 64 * width }
