@@ -1,5 +1,5 @@
 -- Laws of chains, over any relation.
-use Rattle.std.proofs.Common.{◌≡◌, ℕ, zero, suc, refl, subst, sym}
+use Rattle.std.proofs.Common.{ℕ, zero, suc, refl, subst}
 use Rattle.dl_reach.specs.Chain.{Steps, Chain}
 
 -- the empty chain

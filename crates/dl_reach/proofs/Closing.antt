@@ -1,7 +1,7 @@
 -- Laws of uniting rows along pairs until nothing changes.
-use Rattle.std.proofs.Common.{◌≡◌, ◌≢◌, ℕ, ◌+◌, ◌-◌, ◌*◌, ◌^◌, ◌<◌, ◌≤◌, ◌⊎◌, ◌↔◌, Bool, true, false, List, [], ◌∷◌, ◌++◌, length, take, get_or, sum, All, Contains, MatchBool, refl, sym, ap, ◌∙◌, subst, inl, inr, ⊎_elim, arith}
+use Rattle.std.proofs.Common.{◌≡◌, ℕ, ◌-◌, ◌*◌, ◌^◌, ◌<◌, ◌≤◌, ◌⊎◌, ◌↔◌, Bool, true, false, List, [], ◌∷◌, ◌++◌, length, get_or, sum, All, Contains, MatchBool, refl, sym, ap, ◌∙◌, subst, inl, inr, ⊎_elim, arith}
 use Rattle.std.proofs.lemmas.Bool.{false≢true, cases_Bool}
-use Rattle.std.proofs.lemmas.List.Elements.{All-push, All-nil, All-contains, All-from_get_or, Contains-push, Contains-push_cases, Contains-append_left}
+use Rattle.std.proofs.lemmas.List.Elements.{All-push, All-contains, All-from_get_or, Contains-push, Contains-push_cases, Contains-append_left}
 use Rattle.std.proofs.lemmas.List.Sums.{sum_by-le}
 use Rattle.dl_reach.specs.Chain.{Chain}
 use Rattle.dl_reach.specs.Digraph.{Leads}
@@ -31,34 +31,12 @@ Extends-united width row other old new has bits = record {
       ((bits a b).0 h);
 }
 
--- where that changed nothing, the row had them
-pub IsFollowed-united : (width row other : ℕ) (old new : List ℕ) → ((a b : ℕ) → HasBit new width a b ↔ (HasBit old width a b ⊎ ((a ≡ row) × HasBit old width other b))) → new ≡ old → IsFollowed old width row other
-IsFollowed-united width row other old new bits same = record {
-  follows = λ has b h. subst (λ (x : List ℕ). HasBit x width row b) same ((bits row b).1 (inr (refl, h)));
-}
-
-pub IsFollowed-self : (words : List ℕ) (width row other : ℕ) → row ≡ other → IsFollowed words width row other
-IsFollowed-self words width row other e = record {
-  follows = λ has b h. subst (λ (x : ℕ). HasBit words width x b) (sym e) h;
-}
-
-pub IsFollowed-none : (words : List ℕ) (width row other : ℕ) → (HasBit words width row other → ⊥) → IsFollowed words width row other
-IsFollowed-none words width row other none = record { follows = λ has b h. absurd (none has) }
-
 -- the pairs so far are followed once each
 pub record Followed (width : ℕ) (old new : List ℕ) (pairs : List (ℕ × ℕ)) (changed : Bool) : Type 0 where
   pub extends : Extends width old new
   pub rose : changed ≡ true → sum old < sum new
   pub same : changed ≡ false → new ≡ old
   pub all : changed ≡ false → All (λ p. IsFollowed old width p.0 p.1) pairs
-
-pub Followed-none : (width : ℕ) (words : List ℕ) → Followed width words words [] false
-Followed-none width words = record {
-  extends = Extends-refl width words;
-  rose = λ e. absurd (false≢true e);
-  same = λ _. refl;
-  all = λ _. All-nil (λ p. IsFollowed words width p.0 p.1);
-}
 
 -- one pair more, which changed something
 pub Followed-rose : (width : ℕ) (old new next : List ℕ) (pairs : List (ℕ × ℕ)) (pair : ℕ × ℕ) (changed : Bool) → Followed width old new pairs changed → Extends width new next → sum new < sum next → Followed width old next (pairs ++ pair ∷ []) true

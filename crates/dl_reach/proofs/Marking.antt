@@ -1,13 +1,10 @@
 -- Laws of the state of a search.
-use Rattle.std.proofs.Common.{◌≡◌, ◌≢◌, ℕ, ◌+◌, ◌<◌, ◌≤◌, ◌⊎◌, ◌↔◌, Bool, true, false, cond, List, [], ◌∷◌, ◌++◌, length, take, set, get_or, map, All, Contains, count_by, refl, sym, ap, ◌∙◌, subst, inl, inr, ⊎_elim, arith, rules, min}
-use Rattle.std.proofs.lemmas.List.{length-set, length-take, take-append-le, take-take, take_all, take_more, get_or-set_same, get_or-set_other, length_push, get_or_past, map_more, get_or-map}
-use Rattle.std.proofs.lemmas.List.Elements.{All-push, All-append, All-weaker, All-cons, All-nil, All-contains, Contains-push, Contains-push_cases, Contains-append_left, Contains-append_right, Contains-append_cases, Contains-get_or}
-use Rattle.std.proofs.lemmas.List.Sums.{sum_by-set, count_by-le-length}
-use Rattle.std.proofs.lemmas.Bool.{cases_eq, cases_lt, false≢true}
-use Rattle.dl_reach.specs.Chain.{Chain}
-use Rattle.dl_reach.specs.Digraph.{Leads, EndsBelow}
+use Rattle.std.proofs.Common.{◌≡◌, ◌≢◌, ℕ, ◌<◌, ◌≤◌, ◌⊎◌, Bool, true, false, cond, List, [], ◌∷◌, ◌++◌, length, take, set, get_or, Contains, sym, ap, ◌∙◌, subst, inl, inr, ⊎_elim, arith}
+use Rattle.std.proofs.lemmas.List.{length-take, take-append-le, take-take, take_all, get_or-set_same, get_or-set_other, length_push}
+use Rattle.std.proofs.lemmas.List.Elements.{All-push, All-append, All-weaker, All-cons, All-nil, Contains-push, Contains-append_left, Contains-append_right}
+use Rattle.std.proofs.lemmas.List.Sums.{sum_by-set}
+use Rattle.std.proofs.lemmas.Bool.{cases_eq}
 use Rattle.dl_reach.specs.Search.{IsMarked, AreMarked, Marks}
-use Rattle.dl_reach.proofs.Chains.{Chain-refl, Chain-snoc, Chain-keeps}
 
 -- a mark more
 marked_same : (seen : List Bool) (node : ℕ) → node < length seen → IsMarked (set seen node true) node
@@ -20,10 +17,6 @@ marked_kept seen node k h m =
 marked_only : (seen : List Bool) (node k : ℕ) → IsMarked (set seen node true) k → IsMarked seen k ⊎ (node ≡ k)
 marked_only seen node k m =
     ⊎_elim (λ (e : k ≡ node). inr (sym e)) (λ (ne : k ≢ node). inl (sym (get_or-set_other seen node k true false ne) ∙ m)) (cases_eq k node)
-
-marked_within : (seen : List Bool) (node : ℕ) → IsMarked seen node → node < length seen
-marked_within seen node m =
-    ⊎_elim (λ (h : node < length seen). h) (λ (h : length seen ≤ node). absurd (false≢true (sym (get_or_past seen node false h) ∙ m))) (cases_lt node (length seen))
 
 AreMarked-push : (seen : List Bool) (found : List ℕ) (node : ℕ) → AreMarked seen found → node < length seen → get_or seen node false ≡ false → AreMarked (set seen node true) (found ++ node ∷ [])
 AreMarked-push seen found node h in_range was = record {
@@ -42,24 +35,6 @@ Marks-new seen found node h in_range was = record {
   all = All-cons (λ k. IsMarked (set seen node true) k) node [] (marked_same seen node in_range) (All-nil (λ k. IsMarked (set seen node true) k));
   only = λ k m. ⊎_elim (λ (w : IsMarked seen k). inl w) (λ (e : node ≡ k). inr (subst (λ (i : ℕ). Contains (node ∷ []) i) e (Contains-push [] node))) (marked_only seen node k m);
   front = take-append-le (length found) found (node ∷ []) (omega arith) ∙ take_all (length found) found (omega arith);
-}
-
-pub Marks-old : (seen : List Bool) (found : List ℕ) (node : ℕ) → AreMarked seen found → get_or seen node false ≡ true → Marks (node ∷ []) seen found seen found
-Marks-old seen found node h was = record {
-  marked = h;
-  kept = λ k m. m;
-  all = All-cons (λ k. IsMarked seen k) node [] was (All-nil (λ k. IsMarked seen k));
-  only = λ k m. inl m;
-  front = take_all (length found) found (omega arith);
-}
-
-pub Marks-none : (seen : List Bool) (found : List ℕ) → AreMarked seen found → Marks [] seen found seen found
-Marks-none seen found h = record {
-  marked = h;
-  kept = λ k m. m;
-  all = All-nil (λ k. IsMarked seen k);
-  only = λ k m. inl m;
-  front = take_all (length found) found (omega arith);
 }
 
 -- the front of the front

@@ -1,14 +1,12 @@
 -- Laws of bit matrices.
-use Rattle.std.proofs.Common.{◌≡◌, ◌≢◌, ℕ, ◌+◌, ◌*◌, ◌/◌, ◌%◌, ◌^◌, ◌<◌, ◌≤◌, ◌⊎◌, ◌↔◌, max, Bool, true, false, List, length, set, get_or, sum, bit_or, refl, sym, ap, ◌∙◌, subst, inl, inr, ⊎_elim, arith, w64}
+use Rattle.std.proofs.Common.{◌≡◌, ◌≢◌, ℕ, ◌+◌, ◌*◌, ◌/◌, ◌%◌, ◌^◌, ◌<◌, ◌≤◌, ◌⊎◌, ◌↔◌, max, Bool, true, false, List, length, set, get_or, sum, bit_or, sym, ap, ◌∙◌, subst, inl, inr, ⊎_elim, arith, w64}
 use Rattle.std.specs.Int.{bit_at}
-use Rattle.std.proofs.lemmas.Bool.{cases_eq, cases_lt, cases_Bool, false≢true}
+use Rattle.std.proofs.lemmas.Bool.{cases_eq, cases_Bool, false≢true}
 use Rattle.std.proofs.lemmas.List.{length-set, get_or-set_same, get_or-set_other, set-get_or}
 use Rattle.std.proofs.lemmas.List.Sums.{sum_by-set}
 use Rattle.std.proofs.lemmas.Nat.{same_from_place, le_or_l}
 use Rattle.std.proofs.lemmas.Nat.Bits.{bit_at_set_same, bit_at_set_other, bit_at_or, bit_at-lt}
-use Rattle.dl_reach.specs.Chain.{Chain}
-use Rattle.dl_reach.specs.Matrix.{HasBit, HasRow, Extends, IsFollowed}
-use Rattle.dl_reach.proofs.Chains.{Chain-refl, Chain-step, Chain-cons, Chain-mono}
+use Rattle.dl_reach.specs.Matrix.{HasBit, HasRow}
 
 word_below : (width b : ℕ) → b < 64 * width → b / 64 < width
 word_below width b h = omega arith

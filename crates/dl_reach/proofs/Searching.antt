@@ -1,8 +1,7 @@
 -- A search step by step: the nodes that it has marked, and those whose edges it has followed.
-use Rattle.std.proofs.Common.{◌≡◌, ℕ, ◌+◌, ◌<◌, ◌≤◌, ◌⊎◌, ◌↔◌, Bool, true, false, List, [], ◌∷◌, ◌++◌, length, take, get_or, map, replicate, All, Contains, count_by, refl, sym, ap, ◌∙◌, subst, inl, inr, ⊎_elim, arith}
+use Rattle.std.proofs.Common.{◌≡◌, ℕ, ◌+◌, ◌<◌, ◌≤◌, ◌↔◌, Bool, false, List, [], ◌∷◌, ◌++◌, length, take, get_or, map, replicate, All, Contains, sym, ap, ◌∙◌, subst, ⊎_elim, arith}
 use Rattle.std.proofs.lemmas.List.{take-take, take_all, take_more, get_or-map, length-map, length-take, get_or-replicate, length-replicate, get_or_past}
 use Rattle.std.proofs.lemmas.List.Elements.{All-contains, Contains-push_cases, Contains-get_or}
-use Rattle.std.proofs.lemmas.List.Sums.{count_by-le-length}
 use Rattle.std.proofs.lemmas.Bool.{cases_lt, false≢true}
 use Rattle.dl_reach.specs.Chain.{Chain}
 use Rattle.dl_reach.specs.Digraph.{Leads}
@@ -73,10 +72,6 @@ Searched-more nodes edges from seen seen' found found' next node out s here is l
           (Contains-push_cases (take next found) (get_or found next node) a among);
       bound = omega (arith, length-take (length found) found', ap (λ (x : List ℕ). length x) k.front);
     }
-
--- a search ends by the number of nodes
-pub Searched-below : (nodes : ℕ) (edges : List (ℕ × ℕ)) (from : ℕ) (seen : List Bool) (found : List ℕ) (next : ℕ) → Searched nodes edges from seen found next → length found ≤ nodes
-Searched-below nodes edges from seen found next s = omega (arith, s.len, s.marked.as_many, count_by-le-length (λ (mark : Bool). mark) seen)
 
 -- a search that followed the edges of all found nodes has marked exactly the nodes that chains lead to
 pub Searched-end : (nodes : ℕ) (edges : List (ℕ × ℕ)) (from : ℕ) (seen : List Bool) (found : List ℕ) (next : ℕ) → Searched nodes edges from seen found next → length found ≤ next → (node : ℕ) → IsMarked seen node ↔ Chain (Leads edges) from node

@@ -33,7 +33,7 @@ impl Model for Closure {
 
 impl Closure {
     /// The closure of the graph. Fails only for want of memory.
-    pub fn of(alloc: Global, graph: Graph) -> Result<Closure, AllocError>
+    pub(crate) fn of(alloc: Global, graph: Graph) -> Result<Closure, AllocError>
         ensures { IfOk result (λ c. c ≡ graph) }
     {
         let width = (graph.nodes() as usize).div_ceil(64);
@@ -61,6 +61,14 @@ impl Closure {
         ensures least { (other : ℕ) → AreConnected self.now node other → result ≤ other }
     {
         least_connected(&self.words, self.width, node)
+    }
+
+    /// How many nodes there are: the nodes are the numbers below.
+    pub fn nodes(&self) -> u32
+        ensures count { result ≡ self.now.nodes }
+        ensures few { result ≤ 16384 }
+    {
+        self.graph.nodes()
     }
 }
 

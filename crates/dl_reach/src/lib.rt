@@ -12,3 +12,6 @@ mod search;
 pub use closure::Closure;
 pub use graph::Graph;
 pub use memory::NoMemory;
+
+#[cfg(test)]
+mod tests;

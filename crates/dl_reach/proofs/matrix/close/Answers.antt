@@ -1,4 +1,4 @@
-use Rattle.std.proofs.Common.{ℕ, ◌<◌, arith, sum}
+use Rattle.std.proofs.Common.{◌<◌, arith, sum}
 use Rattle.dl_reach.proofs.Closing.{Extends-trans, less_room}
 use Rattle.dl_reach.proofs.matrix.close.Goals as goal
 

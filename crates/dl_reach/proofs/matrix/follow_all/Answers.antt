@@ -1,4 +1,3 @@
-use Rattle.std.proofs.Common.{ℕ, ◌≤◌, length, rules, MatchBool}
 use Rattle.std.proofs.lemmas.List.{take_more, take_all}
 use Rattle.dl_reach.proofs.Closing.{Followed-rose, Followed-same, Followed-end}
 use Rattle.dl_reach.proofs.matrix.follow_all.Goals as goal

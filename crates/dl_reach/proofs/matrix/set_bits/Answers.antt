@@ -1,4 +1,3 @@
-use Rattle.std.proofs.Common.{ℕ, ◌≤◌, length}
 use Rattle.std.proofs.lemmas.List.{take_more, take_all}
 use Rattle.dl_reach.proofs.Closing.{bits_more}
 use Rattle.dl_reach.proofs.matrix.set_bits.Goals as goal

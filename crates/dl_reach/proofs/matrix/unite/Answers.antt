@@ -1,5 +1,4 @@
-use Rattle.std.proofs.Common.{sym, ◌∙◌, subst, Bool}
-use Rattle.dl_reach.proofs.Matrices.{United, United-rose, United-same, HasBit-united}
+use Rattle.dl_reach.proofs.Matrices.{United-rose, United-same, HasBit-united}
 use Rattle.dl_reach.proofs.matrix.unite.Goals as goal
 use Rattle.dl_reach.proofs.matrix.unite.Goals.{then-both-old, else-both-old}
 

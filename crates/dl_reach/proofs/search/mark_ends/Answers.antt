@@ -1,6 +1,5 @@
-use Rattle.std.proofs.Common.{ℕ, ◌≤◌, length, map, take, ap}
+use Rattle.std.proofs.Common.{ℕ}
 use Rattle.std.proofs.lemmas.List.{map_more, take_all}
-use Rattle.dl_reach.specs.Search.{Marks}
 use Rattle.dl_reach.proofs.Marking.{Marks-more}
 use Rattle.dl_reach.proofs.search.mark_ends.Goals as goal
 

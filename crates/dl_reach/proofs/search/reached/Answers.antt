@@ -1,6 +1,6 @@
-use Rattle.std.proofs.Common.{ℕ, ◌≡◌, arith, rules, sym, length, drop, ◌∙◌}
+use Rattle.std.proofs.Common.{◌≡◌, arith, rules, length, drop}
 use Rattle.std.proofs.lemmas.List.{take_at}
-use Rattle.dl_reach.proofs.Searching.{Searched-start, Searched-more, Searched-below, Searched-end, leaving_below}
+use Rattle.dl_reach.proofs.Searching.{Searched-start, Searched-more, Searched-end, leaving_below}
 use Rattle.dl_reach.proofs.search.reached.Goals as goal
 
 pub loop-next-init : goal.loop-next-init

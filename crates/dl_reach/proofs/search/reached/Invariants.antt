@@ -1,7 +1,4 @@
-use Rattle.std.proofs.Common.{◌≡◌, ◌-◌, ◌≤◌, ℕ, length, take, Contains}
-use Rattle.dl_reach.specs.Chain.{Chain}
-use Rattle.dl_reach.specs.Digraph.{Leads}
-use Rattle.dl_reach.specs.Search.{IsMarked, AreMarked}
+use Rattle.std.proofs.Common.{◌-◌}
 use Rattle.dl_reach.proofs.Searching.{Searched}
 use Rattle.dl_reach.proofs.search.reached.Given as goal
 

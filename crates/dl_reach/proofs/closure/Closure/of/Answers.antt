@@ -1,4 +1,4 @@
-use Rattle.std.proofs.Common.{ℕ, ◌≡◌, arith, rules}
+use Rattle.std.proofs.Common.{arith}
 use Rattle.dl_reach.proofs.closure.Closure.of.Goals as goal
 
 pub invariant_of-result : goal.invariant_of-result

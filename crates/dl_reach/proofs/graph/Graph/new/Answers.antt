@@ -1,4 +1,4 @@
-use Rattle.std.proofs.Common.{ℕ, ◌<◌, rules, ◌≡◌, subst}
+use Rattle.std.proofs.Common.{ℕ, ◌<◌, rules}
 use Rattle.std.proofs.lemmas.List.Sorted.{answers_always, IsNonDecreasingBy-from_sort, Contains-permutation, IsPermutation-sym, All-permutation}
 use Rattle.dl_reach.proofs.graph.Graph.new.Goals as goal
 

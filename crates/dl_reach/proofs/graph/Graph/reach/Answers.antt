@@ -1,4 +1,4 @@
-use Rattle.std.proofs.Common.{◌≡◌, ℕ, ap, ◌∙◌, List, Bool}
+use Rattle.std.proofs.Common.{◌≡◌, ap, ◌∙◌}
 use Rattle.dl_reach.specs.Digraph.{Digraph}
 use Rattle.dl_reach.proofs.graph.Graph.reach.Goals as goal
 
