@@ -4,6 +4,7 @@
 mod axiom;
 mod list;
 mod memory;
+mod order;
 mod query;
 mod role;
 mod steps;
@@ -12,6 +13,7 @@ mod tuples;
 pub use axiom::{Axiom, Fact, Part, Signature};
 pub use list::List;
 pub use memory::NoMemory;
+pub use order::{axioms_are_ordered, facts_are_ordered};
 pub use query::{Atom, Disjunct, Probe, Query, Term};
 pub use role::{Base, Basic, Negative, Normal, Role};
 pub use steps::Steps;
