@@ -1,9 +1,11 @@
 pub mod Roles
+pub mod Fillers
 pub mod NormalForm
 pub mod Chain
 pub mod Below
 pub mod Structure
 pub mod Answers
+pub mod Queries
 pub mod Broken
 pub mod Reply
 pub mod Table

@@ -14,13 +14,11 @@ pub fn axioms_are_ordered()
     ensures derived { (a b : Axiom) → ⟦<Axiom as Ord>⟧.cmp a b ≡ axiom_cmp a b }
     ensures total { IsTotalOrder axiom_cmp }
     ensures equal { (a b : Axiom) → axiom_cmp a b ≡ Equal → a ≡ b }
-{
-}
+{}
 
 /// The law of the order of facts, which is `Fact`'s `Ord`: it is total, and facts that compare equal are the same.
 pub fn facts_are_ordered()
     ensures derived { (a b : Fact) → ⟦<Fact as Ord>⟧.cmp a b ≡ fact_cmp a b }
     ensures total { IsTotalOrder fact_cmp }
     ensures equal { (a b : Fact) → fact_cmp a b ≡ Equal → a ≡ b }
-{
-}
+{}
