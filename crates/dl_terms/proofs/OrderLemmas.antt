@@ -1,14 +1,14 @@
 -- The orders of axioms and facts are total, and what compares equal is the same: each is the order of tuples of parts,
 -- of which a tuple tells the term that it is from.
-use Rattle.std.proofs.Common.{◌≡◌, ℕ, Bool, true, false, cond, not, ◌==◌, List, [], ◌∷◌, refl, sym, ap, ap₂, ◌∙◌, subst, true≢false}
+use Rattle.std.proofs.Common.{◌≡◌, ℕ, Bool, true, false, cond, ◌==◌, List, [], ◌∷◌, refl, sym, ap, ap₂, ◌∙◌, subst, true≢false}
 use Rattle.std.proofs.Math.Path.{fun_ext}
 use Rattle.std.specs.declared.cmp.Ordering.{Ordering}
 use Rattle.std.specs.declared.cmp.Ordering.TheVariants.{Less, Equal, Greater}
-use Rattle.std.specs.Ordering.{nat_cmp, ordering_then, then_cmp, on, is_lt, is_gt, is_eq}
+use Rattle.std.specs.Ordering.{nat_cmp, ordering_then, then_cmp, on, is_lt, is_gt}
 use Rattle.std.specs.Cmp.{IsTotalOrder, nat_cmp_total, then_total, on_total, ranked}
 use Rattle.std.specs.Cmp.Lexicographic.{slice_cmp, lists_total}
 use Rattle.dl_terms.specs.Roles.{named}
-use Rattle.dl_terms.specs.Order.{flag, base_cmp, role_cmp, basic_cmp, part_kind, part_cmp, axiom_kind, axiom_cmp, fact_cmp}
+use Rattle.dl_terms.specs.Order.{flag, base_cmp, role_cmp, basic_cmp, part_cmp, axiom_kind, axiom_cmp, fact_cmp}
 use Rattle.dl_terms.specs.declared.role.Base.{Base}
 use Rattle.dl_terms.specs.declared.role.Base.TheVariants.{Named, Filler}
 use Rattle.dl_terms.specs.declared.role.Role.{Role}

@@ -18,3 +18,6 @@ pub use query::{Atom, Disjunct, Probe, Query, Term};
 pub use role::{Base, Basic, Negative, Normal, Role};
 pub use steps::Steps;
 pub use tuples::{Pair, Tuples};
+
+#[cfg(test)]
+mod tests;
