@@ -1,2 +1,6 @@
 pub mod TableLemmas
 pub mod OrderLemmas
+pub mod MemberLemmas
+pub mod BelowLemmas
+pub mod StructureLemmas
+pub mod AnswerLemmas

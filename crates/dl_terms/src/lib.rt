@@ -2,6 +2,7 @@
 #![tactic(auto)]
 
 mod axiom;
+pub mod laws;
 mod list;
 mod memory;
 mod order;
