@@ -4,3 +4,5 @@ pub mod MemberLemmas
 pub mod BelowLemmas
 pub mod StructureLemmas
 pub mod AnswerLemmas
+pub mod MatchLemmas
+pub mod ExampleLemmas

@@ -10,6 +10,7 @@ mod query;
 mod role;
 mod steps;
 mod tuples;
+pub mod worked_examples;
 
 pub use axiom::{Axiom, Fact, Part, Signature};
 pub use list::List;

@@ -1,0 +1,23 @@
+//! What the definitions give on small ontologies.
+ghost use Rattle.std.specs.Prelude.{◌≡◌, ℕ, List, [], ◌∷◌};
+ghost use Rattle.dl_terms.specs.Answers.{IsCertain, AreCertain};
+ghost use Rattle.dl_terms.specs.Examples.{class_a, name_a, name_b, name_c, a_is_an_a, a_has_a_p, a_p_has_an_s, has_a_p, is_p, share_a_p, has_a_p_with_an_s, some_loop};
+ghost use Rattle.dl_terms.specs.declared.axiom.Fact.TheVariants as fact;
+
+/// The certain answers of small ontologies.
+pub fn worked_examples()
+    // A is below "some P", and a is an A: a has a neighbour without a name, and none with one.
+    ensures unnamed_neighbour { IsCertain (a_has_a_p ∷ []) (a_is_an_a ∷ []) has_a_p (name_a ∷ []) }
+    ensures no_named_neighbour { (tuple : List ℕ) → ¬ IsCertain (a_has_a_p ∷ []) (a_is_an_a ∷ []) is_p tuple }
+
+    // With two As, a and c, each has a neighbour of its own.
+    ensures not_shared { AreCertain (a_has_a_p ∷ []) (fact.Is class_a name_a ∷ fact.Is class_a name_c ∷ []) share_a_p
+        ((name_a ∷ name_a ∷ []) ∷ (name_c ∷ name_c ∷ []) ∷ []) }
+    ensures none_for_two { ¬ IsCertain (a_has_a_p ∷ []) (fact.Is class_a name_a ∷ fact.Is class_a name_c ∷ []) share_a_p (name_a ∷ name_c ∷ []) }
+
+    // What has an incoming P has an outgoing S: an unnamed neighbour has one too.
+    ensures unnamed_neighbours { IsCertain (a_has_a_p ∷ a_p_has_an_s ∷ []) (a_is_an_a ∷ []) has_a_p_with_an_s (name_a ∷ []) }
+
+    // No unnamed element is its own neighbour.
+    ensures no_loop { (tuple : List ℕ) → ¬ IsCertain (a_has_a_p ∷ []) (a_is_an_a ∷ []) some_loop tuple }
+{}
