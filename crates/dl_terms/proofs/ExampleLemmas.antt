@@ -1,5 +1,6 @@
 -- The worked examples.
 use Rattle.std.proofs.Common.{◌≡◌, ℕ, suc, zero, ◌<◌, ◌⊎◌, ◌↔◌, Bool, true, false, List, [], ◌∷◌, ◌++◌, map, length, replicate, Some, None, refl, sym, ap, ap₂, subst, ◌∙◌, inl, inr, true≢false, lit<, arith}
+use Rattle.std.proofs.lemmas.List.{length-replicate}
 use Rattle.std.specs.List.{All, Contains, list_all}
 use Rattle.std.specs.Option.{is_some}
 use Rattle.std.specs.declared.option.Option.{Option}
@@ -27,7 +28,7 @@ use Rattle.dl_terms.specs.declared.axiom.Fact.TheVariants as fact
 use Rattle.dl_terms.specs.declared.query.Query.{Query}
 use Rattle.dl_terms.proofs.MemberLemmas.{Contains-first, Contains-later, Contains-one, Contains-two, Contains-middle, All-Contains, list_all-Contains}
 use Rattle.dl_terms.proofs.BelowLemmas.{Chain-one, RoleBelow-keeps, ConceptBelow-keeps, ConceptBelow-inclusion, ConceptBelow-SomeOf, ConceptBelow-trans}
-use Rattle.dl_terms.proofs.StructureLemmas.{individual-child, child-itself, child-injective}
+use Rattle.dl_terms.proofs.StructureLemmas.{child-word, individual-child, child-itself, child-injective}
 use Rattle.dl_terms.proofs.AnswerLemmas.{IsSetOf-unique}
 use Rattle.dl_terms.proofs.OrderLemmas.{axioms_linear}
 use Rattle.dl_terms.proofs.MatchLemmas.{head_none, head_two, by_place, IsCertain-by_place, IsMet-by_place, HoldsAtName-class, Joins-child, Joins-individuals, HoldsAt-no_fact, is_one_of, is_role_of}
@@ -173,3 +174,99 @@ no_loop tuple c = by (Joins-child (a_has_a_p ∷ []) (a_is_an_a ∷ []) refl p (
         ⊎ ((r : Role) × (c.elements 0 ≡ child (c.elements 0) r) × RoleBelow (a_has_a_p ∷ []) r (inverse_of p)) → ⊥
     by (inl h) = child-itself (c.elements 0) h.0 h.1
     by (inr h) = child-itself (c.elements 0) h.0 h.1
+
+-- ---- words of any length
+
+abbrev endless : List Axiom
+endless = a_p_has_a_p ∷ []
+
+abbrev a_b : List Fact
+a_b = fact.Link property_p name_a name_b ∷ []
+
+-- b, and a word of P alone
+abbrev far : ℕ → Element
+far n = record { name = name_b; word = replicate n p }
+
+again : ConceptBelow endless (basic.SomeOf (inverse_of p)) (basic.SomeOf p)
+again = ConceptBelow-inclusion endless (0, lit< tt, refl)
+
+follows_again : (n : ℕ) → Follows endless p (replicate n p)
+follows_again zero = tt
+follows_again (suc n) = (again, follows_again n)
+
+far_element : (n : ℕ) → IsElement endless a_b (far n)
+far_element zero = tt
+far_element (suc n) = (by_target (0, lit< tt, refl) again, follows_again n)
+
+pub words_of_any_length : (n : ℕ) → (x : Element) × IsElement endless a_b x × (length x.word ≡ n)
+words_of_any_length n = (far n, far_element n, length-replicate n p)
+
+pub seven_atoms : IsCertain endless a_b seven_in_a_row []
+seven_atoms =
+    IsCertain-by_place endless a_b seven_in_a_row [] (far 0 ∷ far 1 ∷ far 2 ∷ far 3 ∷ far 4 ∷ far 5 ∷ far 6 ∷ far 7 ∷ []) refl
+    (far_element 0, (far_element 1, (far_element 2, (far_element 3, (far_element 4, (far_element 5, (far_element 6, (far_element 7, tt))))))))
+    (to_child refl empty, (to_child refl empty, (to_child refl empty, (to_child refl empty, (to_child refl empty, (to_child refl empty, (to_child refl empty, tt)))))))
+    refl
+
+-- ---- a role below an inverse
+
+abbrev turning : List Axiom
+turning = p_is_a_turned_s ∷ []
+
+turned_below : RoleBelow turning (inverse_of p) s
+turned_below = Chain-one (RoleStep.inverted (0, lit< tt, refl))
+
+-- what is above P, and above its inverse
+not_below : RoleBelow turning p s → ⊥
+not_below c = true≢false (sym (RoleBelow-keeps turning (is_role_of (p ∷ inverse_of s ∷ [])) refl c refl))
+
+link_ends : Fact → List ℕ
+link_ends (fact.Is c a) = []
+link_ends (fact.Link r a b) = r ∷ a ∷ b ∷ []
+
+the_link : (r a b : ℕ) → Contains a_b (fact.Link r a b) → property_p ∷ name_a ∷ name_b ∷ [] ≡ r ∷ a ∷ b ∷ []
+unfolding link_ends
+the_link r a b c = ap link_ends (Contains-one (fact.Link property_p name_a name_b) (fact.Link r a b) c)
+
+first_number_of : List ℕ → ℕ
+first_number_of [] = 0
+first_number_of (x ∷ xs) = x
+
+rest_of : List ℕ → List ℕ
+rest_of [] = []
+rest_of (x ∷ xs) = xs
+
+turned_ends : (x y : Element) → x.word ≡ [] → Joins turning a_b s x y → y.word ≡ [] → name_b ∷ name_a ∷ [] ≡ x.name ∷ y.name ∷ []
+unfolding first_number_of rest_of
+turned_ends x y e (by_fact {p = r} e' f c d) g =
+    let l = the_link r x.name y.name c in
+    absurd (not_below (subst (λ n. RoleBelow turning (named n) s) (sym (ap first_number_of l)) d))
+turned_ends x y e (by_fact_turned {p = r} e' f c d) g =
+    let l = ap rest_of (the_link r y.name x.name c) in
+    ap₂ (λ u v. u ∷ v ∷ []) (ap (λ z. first_number_of (rest_of z)) l) (ap first_number_of l)
+turned_ends x y e (to_child {r = r} f d) g = absurd (child-word x r (sym (ap (λ z. z.word) f) ∙ g))
+turned_ends x y e (from_child {r = r} f d) g = absurd (child-word y r (sym (ap (λ z. z.word) f) ∙ e))
+
+only_turned : (tuple : List ℕ) → IsCertain turning a_b is_s tuple → name_b ∷ name_a ∷ [] ≡ tuple
+only_turned tuple c =
+    let h = head_two (c.elements 0) (c.elements 1) tuple c.is_head in
+    turned_ends (c.elements 0) (c.elements 1) (ap (λ z. z.word) h.3) (c.is_match.atoms (link property_s 0 1) (0, lit< tt, refl)) (ap (λ z. z.word) h.4)
+    ∙ ap₂ (λ u v. u ∷ v ∷ []) (ap (λ z. z.name) h.3) (ap (λ z. z.name) h.4) ∙ sym h.2
+
+turned_certain : IsCertain turning a_b is_s (name_b ∷ name_a ∷ [])
+turned_certain =
+    IsCertain-by_place turning a_b is_s (name_b ∷ name_a ∷ []) (individual name_b ∷ individual name_a ∷ []) refl (tt, (tt, tt))
+    (by_fact_turned refl refl (0, lit< tt, refl) turned_below, tt) refl
+
+one_ascends : AscendStrictly ((name_b ∷ name_a ∷ []) ∷ [])
+unfolding IsStrictlySortedBy
+one_ascends = (tt, tt)
+
+pub turned : AreCertain turning a_b is_s ((name_b ∷ name_a ∷ []) ∷ [])
+turned = record {
+  ascending = one_ascends;
+  exact = λ tuple. (
+    λ c. subst (IsCertain turning a_b is_s) (Contains-one (name_b ∷ name_a ∷ []) tuple c) turned_certain,
+    λ c. subst (Contains ((name_b ∷ name_a ∷ []) ∷ [])) (only_turned tuple c) (0, lit< tt, refl),
+  );
+}

@@ -1,7 +1,8 @@
 //! What the definitions give on small ontologies.
-ghost use Rattle.std.specs.Prelude.{◌≡◌, ℕ, List, [], ◌∷◌};
+ghost use Rattle.std.specs.Prelude.{◌≡◌, ℕ, List, [], ◌∷◌, length};
+ghost use Rattle.dl_terms.specs.Structure.{Element, IsElement};
 ghost use Rattle.dl_terms.specs.Answers.{IsCertain, AreCertain};
-ghost use Rattle.dl_terms.specs.Examples.{class_a, name_a, name_b, name_c, a_is_an_a, a_has_a_p, a_p_has_an_s, has_a_p, is_p, share_a_p, has_a_p_with_an_s, some_loop};
+ghost use Rattle.dl_terms.specs.Examples.{class_a, property_p, name_a, name_b, name_c, a_is_an_a, a_has_a_p, a_p_has_an_s, a_p_has_a_p, p_is_a_turned_s, has_a_p, is_p, share_a_p, has_a_p_with_an_s, some_loop, seven_in_a_row, is_s};
 ghost use Rattle.dl_terms.specs.declared.axiom.Fact.TheVariants as fact;
 
 /// The certain answers of small ontologies.
@@ -20,4 +21,12 @@ pub fn worked_examples()
 
     // No unnamed element is its own neighbour.
     ensures no_loop { (tuple : List ℕ) → ¬ IsCertain (a_has_a_p ∷ []) (a_is_an_a ∷ []) some_loop tuple }
+
+    // What has an incoming P has an outgoing P, and P(a, b): there are words of any length.
+    ensures words_of_any_length { (n : ℕ)
+        → (x : Element) × IsElement (a_p_has_a_p ∷ []) (fact.Link property_p name_a name_b ∷ []) x × (length x.word ≡ n) }
+    ensures seven_atoms { IsCertain (a_p_has_a_p ∷ []) (fact.Link property_p name_a name_b ∷ []) seven_in_a_row [] }
+
+    // P is below the inverse of S, and P(a, b).
+    ensures turned { AreCertain (p_is_a_turned_s ∷ []) (fact.Link property_p name_a name_b ∷ []) is_s ((name_b ∷ name_a ∷ []) ∷ []) }
 {}

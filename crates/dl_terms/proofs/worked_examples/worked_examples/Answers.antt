@@ -1,4 +1,4 @@
-use Rattle.dl_terms.proofs.ExampleLemmas.{unnamed_neighbour, no_named_neighbour, not_shared, none_for_two, unnamed_neighbours, no_loop}
+use Rattle.dl_terms.proofs.ExampleLemmas.{unnamed_neighbour, no_named_neighbour, not_shared, none_for_two, unnamed_neighbours, no_loop, words_of_any_length, seven_atoms, turned}
 use Rattle.dl_terms.proofs.worked_examples.worked_examples.Goals as goal
 
 pub returns-clause-unnamed_neighbour : goal.returns-clause-unnamed_neighbour
@@ -18,3 +18,12 @@ returns-clause-unnamed_neighbours c = unnamed_neighbours
 
 pub returns-clause-no_loop : goal.returns-clause-no_loop
 returns-clause-no_loop c = no_loop
+
+pub returns-clause-words_of_any_length : goal.returns-clause-words_of_any_length
+returns-clause-words_of_any_length c = words_of_any_length
+
+pub returns-clause-seven_atoms : goal.returns-clause-seven_atoms
+returns-clause-seven_atoms c = seven_atoms
+
+pub returns-clause-turned : goal.returns-clause-turned
+returns-clause-turned c = turned
