@@ -6,3 +6,4 @@ pub mod StructureLemmas
 pub mod AnswerLemmas
 pub mod MatchLemmas
 pub mod ExampleLemmas
+pub mod BrokenExampleLemmas
