@@ -1,1 +1,9 @@
 pub mod TableLemmas
+pub mod OrderLemmas
+pub mod MemberLemmas
+pub mod BelowLemmas
+pub mod StructureLemmas
+pub mod AnswerLemmas
+pub mod MatchLemmas
+pub mod ExampleLemmas
+pub mod BrokenExampleLemmas

@@ -1,5 +1,5 @@
 -- Role below and basic concept below: chains of inclusion steps (DL-Lite_R).
-use Rattle.std.specs.Prelude.{List, ◌⊎◌}
+use Rattle.std.specs.Prelude.{List}
 use Rattle.std.specs.List.{Contains}
 use Rattle.dl_terms.specs.Chain.{Chain}
 use Rattle.dl_terms.specs.Roles.{inverse_of}

@@ -15,7 +15,7 @@ use Rattle.dl_terms.specs.declared.role.Negative.TheVariants.{Basics, Roles, NoL
 use Rattle.dl_terms.specs.declared.axiom.Axiom.{Axiom}
 use Rattle.dl_terms.specs.declared.axiom.Fact.{Fact}
 use Rattle.dl_terms.specs.declared.query.Term.{Term}
-use Rattle.dl_terms.specs.declared.query.Term.TheVariants.{Var, Name}
+use Rattle.dl_terms.specs.declared.query.Term.TheVariants.{Var}
 use Rattle.dl_terms.specs.declared.query.Atom.{Atom}
 use Rattle.dl_terms.specs.declared.query.Atom.TheVariants.{Is, Link}
 use Rattle.dl_terms.specs.declared.query.Query.{Query}

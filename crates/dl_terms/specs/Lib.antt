@@ -1,12 +1,15 @@
 pub mod Roles
+pub mod Fillers
 pub mod NormalForm
 pub mod Chain
 pub mod Below
 pub mod Structure
 pub mod Answers
+pub mod Queries
 pub mod Broken
 pub mod Reply
 pub mod Table
 pub mod Order
 pub mod Sets
 pub mod Renamed
+pub mod Examples

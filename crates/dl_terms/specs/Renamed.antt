@@ -1,5 +1,5 @@
 -- Terms whose names are given other numbers, as places in a list of names are given ranks.
-use Rattle.std.specs.Prelude.{ℕ, List, map}
+use Rattle.std.specs.Prelude.{ℕ, map}
 use Rattle.dl_terms.specs.declared.role.Base.{Base}
 use Rattle.dl_terms.specs.declared.role.Base.TheVariants.{Named, Filler}
 use Rattle.dl_terms.specs.declared.role.Role.{Role}

@@ -1,6 +1,6 @@
 -- Roles and basic concepts of DL-Lite_R (Calvanese, De Giacomo, Lembo, Lenzerini, Rosati: Tractable Reasoning and
 -- Efficient Query Answering in Description Logics, 2007), with fillers, which are this project's own.
-use Rattle.std.specs.Prelude.{ℕ, Bool, true, false, not}
+use Rattle.std.specs.Prelude.{ℕ, Bool, false, not}
 use Rattle.dl_terms.specs.declared.role.Base.{Base}
 use Rattle.dl_terms.specs.declared.role.Base.TheVariants.{Named, Filler}
 use Rattle.dl_terms.specs.declared.role.Role.{Role}

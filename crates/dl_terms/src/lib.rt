@@ -2,17 +2,24 @@
 #![tactic(auto)]
 
 mod axiom;
+pub mod laws;
 mod list;
 mod memory;
+mod order;
 mod query;
 mod role;
 mod steps;
 mod tuples;
+pub mod worked_examples;
 
 pub use axiom::{Axiom, Fact, Part, Signature};
 pub use list::List;
 pub use memory::NoMemory;
+pub use order::{axioms_are_ordered, facts_are_ordered};
 pub use query::{Atom, Disjunct, Probe, Query, Term};
 pub use role::{Base, Basic, Negative, Normal, Role};
 pub use steps::Steps;
 pub use tuples::{Pair, Tuples};
+
+#[cfg(test)]
+mod tests;

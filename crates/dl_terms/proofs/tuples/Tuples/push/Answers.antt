@@ -1,4 +1,3 @@
-use Rattle.std.proofs.Common.{refl, ap}
 use Rattle.dl_terms.proofs.TableLemmas.{table_push}
 use Rattle.dl_terms.proofs.tuples.Tuples.push.Goals as goal
 

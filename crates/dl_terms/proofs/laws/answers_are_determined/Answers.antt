@@ -1,0 +1,8 @@
+use Rattle.dl_terms.proofs.AnswerLemmas.{AreCertain-unique, IsFirstBroken-unique}
+use Rattle.dl_terms.proofs.laws.answers_are_determined.Goals as goal
+
+pub returns-clause-certain : goal.returns-clause-certain
+returns-clause-certain c = AreCertain-unique
+
+pub returns-clause-broken : goal.returns-clause-broken
+returns-clause-broken c = IsFirstBroken-unique

@@ -1,0 +1,26 @@
+use Rattle.dl_terms.proofs.BrokenExampleLemmas.{broken_at_an_unnamed, no_name_in_both, nothing_without_the_fact, asymmetry_first, asymmetry_first_of_set, nothing_is_broken, nothing_is_no_name, disjoint_from_itself}
+use Rattle.dl_terms.proofs.worked_examples.broken_examples.Goals as goal
+
+pub returns-clause-at_an_unnamed : goal.returns-clause-at_an_unnamed
+returns-clause-at_an_unnamed c = broken_at_an_unnamed
+
+pub returns-clause-at_no_name : goal.returns-clause-at_no_name
+returns-clause-at_no_name c = no_name_in_both
+
+pub returns-clause-without_the_fact : goal.returns-clause-without_the_fact
+returns-clause-without_the_fact c = nothing_without_the_fact
+
+pub returns-clause-asymmetry_first : goal.returns-clause-asymmetry_first
+returns-clause-asymmetry_first c = asymmetry_first
+
+pub returns-clause-asymmetry_first_of_set : goal.returns-clause-asymmetry_first_of_set
+returns-clause-asymmetry_first_of_set c = asymmetry_first_of_set
+
+pub returns-clause-nothing_is_broken : goal.returns-clause-nothing_is_broken
+returns-clause-nothing_is_broken c = nothing_is_broken
+
+pub returns-clause-nothing_is_no_name : goal.returns-clause-nothing_is_no_name
+returns-clause-nothing_is_no_name c = nothing_is_no_name
+
+pub returns-clause-by_position : goal.returns-clause-by_position
+returns-clause-by_position c = disjoint_from_itself

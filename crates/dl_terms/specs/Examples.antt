@@ -1,0 +1,129 @@
+-- The ontologies and queries of the worked examples, in functional syntax and as lists. Numbers stand for names.
+use Rattle.std.specs.Prelude.{ℕ, List, [], ◌∷◌}
+use Rattle.dl_terms.specs.Roles.{named, inverse_of, filler_of}
+use Rattle.dl_terms.specs.declared.role.Role.{Role}
+use Rattle.dl_terms.specs.declared.role.Basic.{Basic}
+use Rattle.dl_terms.specs.declared.role.Basic.TheVariants as basic
+use Rattle.dl_terms.specs.declared.axiom.Part.TheVariants as part
+use Rattle.dl_terms.specs.declared.axiom.Axiom.{Axiom}
+use Rattle.dl_terms.specs.declared.axiom.Axiom.TheVariants.{SubClass, DisjointClasses, SubRole, Asymmetric, Irreflexive}
+use Rattle.dl_terms.specs.declared.axiom.Fact.{Fact}
+use Rattle.dl_terms.specs.declared.axiom.Fact.TheVariants as fact
+use Rattle.dl_terms.specs.declared.query.Term.TheVariants.{Var}
+use Rattle.dl_terms.specs.declared.query.Atom.{Atom}
+use Rattle.dl_terms.specs.declared.query.Atom.TheVariants as atom
+use Rattle.dl_terms.specs.declared.query.Query.{Query}
+
+-- the classes A, C and D, the object properties P and S, and the individuals a, b and c
+abbrev pub class_a : ℕ
+class_a = 0
+
+abbrev pub class_c : ℕ
+class_c = 1
+
+abbrev pub class_d : ℕ
+class_d = 2
+
+abbrev pub property_p : ℕ
+property_p = 3
+
+abbrev pub property_s : ℕ
+property_s = 4
+
+abbrev pub name_a : ℕ
+name_a = 5
+
+abbrev pub name_b : ℕ
+name_b = 6
+
+abbrev pub name_c : ℕ
+name_c = 7
+
+-- a role atom between two variables
+abbrev pub link : ℕ → ℕ → ℕ → Atom
+link p v w = atom.Link p (Var v) (Var w)
+
+-- ClassAssertion(A a)
+abbrev pub a_is_an_a : Fact
+a_is_an_a = fact.Is class_a name_a
+
+-- SubClassOf(A ObjectSomeValuesFrom(P owl:Thing))
+abbrev pub a_has_a_p : Axiom
+a_has_a_p = SubClass (basic.Class class_a) (part.Any (named property_p) ∷ [])
+
+-- SubClassOf(ObjectSomeValuesFrom(ObjectInverseOf(P) owl:Thing) ObjectSomeValuesFrom(S owl:Thing))
+abbrev pub a_p_has_an_s : Axiom
+a_p_has_an_s = SubClass (basic.SomeOf (inverse_of (named property_p))) (part.Any (named property_s) ∷ [])
+
+-- SubClassOf(ObjectSomeValuesFrom(ObjectInverseOf(P) owl:Thing) ObjectSomeValuesFrom(P owl:Thing))
+abbrev pub a_p_has_a_p : Axiom
+a_p_has_a_p = SubClass (basic.SomeOf (inverse_of (named property_p))) (part.Any (named property_p) ∷ [])
+
+-- SubClassOf(A ObjectSomeValuesFrom(P C))
+abbrev pub a_has_a_p_in_c : Axiom
+a_has_a_p_in_c = SubClass (basic.Class class_a) (part.Fill (named property_p) class_c ∷ [])
+
+-- SubClassOf(ObjectSomeValuesFrom(ObjectInverseOf(P) owl:Thing) D)
+abbrev pub a_p_is_a_d : Axiom
+a_p_is_a_d = SubClass (basic.SomeOf (inverse_of (named property_p))) (part.Class class_d ∷ [])
+
+-- DisjointClasses(C D)
+abbrev pub c_and_d_are_disjoint : Axiom
+c_and_d_are_disjoint = DisjointClasses (basic.Class class_c ∷ basic.Class class_d ∷ [])
+
+-- SubObjectPropertyOf(P ObjectInverseOf(S))
+abbrev pub p_is_a_turned_s : Axiom
+p_is_a_turned_s = SubRole (named property_p) (inverse_of (named property_s))
+
+-- AsymmetricObjectProperty(P)
+abbrev pub p_is_asymmetric : Axiom
+p_is_asymmetric = Asymmetric (named property_p)
+
+-- IrreflexiveObjectProperty(P)
+abbrev pub p_is_irreflexive : Axiom
+p_is_irreflexive = Irreflexive (named property_p)
+
+-- SubClassOf(A D), where D stands for owl:Nothing
+abbrev pub an_a_is_a_d : Axiom
+an_a_is_a_d = SubClass (basic.Class class_a) (part.Class class_d ∷ [])
+
+-- DisjointClasses(A A)
+abbrev pub a_is_disjoint_from_itself : Axiom
+a_is_disjoint_from_itself = DisjointClasses (basic.Class class_a ∷ basic.Class class_a ∷ [])
+
+-- A below some P in C, what has an incoming P is a D, C and D are disjoint
+abbrev pub a_filler_in_c_and_d : List Axiom
+a_filler_in_c_and_d = a_has_a_p_in_c ∷ a_p_is_a_d ∷ c_and_d_are_disjoint ∷ []
+
+-- q(x) :- P(x, y)
+abbrev pub has_a_p : Query
+has_a_p = record { head = 0 ∷ []; atoms = link property_p 0 1 ∷ []; vars = 2 }
+
+-- q(x, y) :- P(x, y)
+abbrev pub is_p : Query
+is_p = record { head = 0 ∷ 1 ∷ []; atoms = link property_p 0 1 ∷ []; vars = 2 }
+
+-- q(x, z) :- P(x, y), P(z, y)
+abbrev pub share_a_p : Query
+share_a_p = record { head = 0 ∷ 1 ∷ []; atoms = link property_p 0 2 ∷ link property_p 1 2 ∷ []; vars = 3 }
+
+-- q(x) :- P(x, y), S(y, z)
+abbrev pub has_a_p_with_an_s : Query
+has_a_p_with_an_s = record { head = 0 ∷ []; atoms = link property_p 0 1 ∷ link property_s 1 2 ∷ []; vars = 3 }
+
+-- q() :- P(y, y)
+abbrev pub some_loop : Query
+some_loop = record { head = []; atoms = link property_p 0 0 ∷ []; vars = 1 }
+
+-- q() :- P(v0, v1), P(v1, v2), P(v2, v3), P(v3, v4), P(v4, v5), P(v5, v6), P(v6, v7)
+abbrev pub seven_in_a_row : Query
+seven_in_a_row = record {
+  head = [];
+  atoms = link property_p 0 1 ∷ link property_p 1 2 ∷ link property_p 2 3 ∷ link property_p 3 4 ∷ link property_p 4 5 ∷ link property_p 5 6
+      ∷ link property_p 6 7 ∷ [];
+  vars = 8;
+}
+
+-- q(x, y) :- S(x, y)
+abbrev pub is_s : Query
+is_s = record { head = 0 ∷ 1 ∷ []; atoms = link property_s 0 1 ∷ []; vars = 2 }
