@@ -1,8 +1,8 @@
 -- Where a token of each form ends.
-use Rattle.std.proofs.Common.{◌≡◌, ◌≢◌, ℕ, zero, suc, ◌+◌, ◌-◌, ◌<◌, ◌≤◌, ◌⊎◌, inl, inr, Bool, true, false, Option, Some, None, List, [], ◌∷◌, ◌++◌, length, get_or, take, drop, refl, sym, ap, ◌∙◌, subst, arith, rules}
+use Rattle.std.proofs.Common.{◌≡◌, ℕ, ◌+◌, ◌<◌, Some, List, [], length, get_or, refl, subst, arith}
 use Rattle.std.specs.List.{slice_range}
 use Rattle.dl_lex.specs.declared.token.TokenKind.{TokenKind}
-use Rattle.dl_lex.specs.Characters.{StandsAt, NoCharacterAt, IsLongestRun, is_iri_character, is_lang_character, is_run_character}
+use Rattle.dl_lex.specs.Characters.{IsLongestRun, is_iri_character, is_lang_character, is_run_character}
 use Rattle.dl_lex.specs.Grammar.{IsIri, IsLang, IsRun, run_kind}
 use Rattle.dl_lex.proofs.Runs.{none_at_ascii, one_run}
 use Rattle.dl_lex.proofs.Tokens.{stands_byte}

@@ -1,14 +1,13 @@
 -- What stands at a place of bytes: texts, and characters in UTF-8.
-use Rattle.std.proofs.Common.{◌≡◌, ◌≢◌, ℕ, zero, suc, ◌+◌, ◌-◌, ◌*◌, ◌/◌, ◌%◌, ◌<◌, ◌≤◌, ◌⊎◌, inl, inr, Bool, true, false, cond, ltb, List, [], ◌∷◌, ◌++◌, length, get_or, take, drop, refl, sym, ap, ◌∙◌, subst, append_assoc, length-append, length-drop, drop-cons, add-one, arith, rules}
+use Rattle.std.proofs.Common.{◌≡◌, ℕ, ◌+◌, ◌<◌, ◌≤◌, ◌⊎◌, inl, inr, true, List, [], ◌∷◌, ◌++◌, length, get_or, take, drop, refl, sym, ap, ◌∙◌, append_assoc, length-append, length-drop, drop-cons, add-one, arith}
 use Rattle.std.proofs.Math.Utf8.{encode, encodes, scalar, scalars}
-use Rattle.std.specs.Char.{IsScalar}
 use Rattle.std.specs.Str.{IsUtf8, continuation_len}
-use Rattle.std.proofs.lemmas.Bool.{cases_lt, cases_Bool, and_parts, ltb-true, ltb-false}
+use Rattle.std.proofs.lemmas.Bool.{cases_lt, and_parts}
 use Rattle.std.proofs.lemmas.Bool.Decides.{nat_tests}
-use Rattle.std.proofs.lemmas.List.{get_or-drop, get_or_append_left, get_or-take, take_all, length-take-le, take-append-drop, append-nil, nil_from_length, drop-drop}
+use Rattle.std.proofs.lemmas.List.{get_or-drop, get_or_append_left, get_or-take, length-take-le, take-append-drop, append-nil, nil_from_length, drop-drop}
 use Rattle.std.proofs.Math.Seq.{take-append_seam}
-use Rattle.std.proofs.lemmas.Str.{encode_ascii, encode_same, length-encode, len_utf8_bounds, char_from_byte, byte_from_char, IsUtf8-encode, encodes-append}
-use Rattle.dl_lex.specs.Characters.{StandsAt, IsCharacterAt, NoCharacterAt, AreCharacters, IsLongestRun}
+use Rattle.std.proofs.lemmas.Str.{encode_ascii, length-encode, len_utf8_bounds, char_from_byte, byte_from_char}
+use Rattle.dl_lex.specs.Characters.{StandsAt, IsCharacterAt}
 
 -- one text after another
 pub StandsAt-append : (bytes : List ℕ) (i j k : ℕ) (xs ys : List ℕ) → StandsAt bytes i xs j → StandsAt bytes j ys k → StandsAt bytes i (xs ++ ys) k

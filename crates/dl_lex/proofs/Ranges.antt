@@ -1,18 +1,17 @@
 -- The places of tokens are in order, and the text of a token is UTF-8.
-use Rattle.std.proofs.Common.{◌≡◌, ◌≢◌, ℕ, zero, suc, ◌+◌, ◌-◌, ◌<◌, ◌≤◌, ◌⊎◌, inl, inr, Bool, true, false, Option, Some, None, List, [], ◌∷◌, ◌++◌, length, get_or, take, drop, refl, sym, ap, ◌∙◌, subst, length-append, arith, rules}
-use Rattle.std.proofs.Math.Utf8.{encode, encodes, scalar, scalars, low_scalar}
+use Rattle.std.proofs.Common.{◌≡◌, ℕ, ◌+◌, ◌-◌, ◌<◌, ◌≤◌, Bool, true, List, [], ◌∷◌, ◌++◌, length, drop, refl, sym, subst, arith}
+use Rattle.std.proofs.Math.Utf8.{encodes, scalar, scalars, low_scalar}
 use Rattle.std.proofs.Math.Seq.{take-append_seam}
 use Rattle.std.specs.List.{All, slice_range}
 use Rattle.std.specs.Char.{IsScalar}
 use Rattle.std.specs.Str.{IsUtf8}
 use Rattle.std.proofs.lemmas.Bool.{and_from}
-use Rattle.std.proofs.lemmas.Option.{slice_get_within}
 use Rattle.std.proofs.lemmas.List.Elements.{All-head, All-tail}
 use Rattle.std.proofs.lemmas.Str.{encode_ascii, IsUtf8-encode, IsUtf8-append, IsUtf8-nil}
 use Rattle.dl_lex.specs.declared.token.TokenKind.{TokenKind}
 use Rattle.dl_lex.specs.declared.token.TokenKind.TheVariants.{Open, Close, Equals, Caret, Iri, Text, Lang, Node, Short, Number, Word, End}
-use Rattle.dl_lex.specs.Characters.{StandsAt, AreCharacters, IsLongestRun, is_comment_character}
-use Rattle.dl_lex.specs.Grammar.{Skips, nothing, white_space, comment, IsIri, IsQuoted, empty, plain, escaped, IsText, IsLang, IsRun, IsTokenAt}
+use Rattle.dl_lex.specs.Characters.{StandsAt, AreCharacters}
+use Rattle.dl_lex.specs.Grammar.{Skips, nothing, white_space, comment, IsIri, IsQuoted, empty, plain, escaped, IsRun, IsTokenAt}
 use Rattle.dl_lex.proofs.Places.{StandsAt-append}
 use Rattle.dl_lex.proofs.Quoted.{escaped_low}
 
@@ -86,3 +85,10 @@ token_in_place bytes End i j t =
     let ends = t.1 in
     let size : j - i ≡ 0 = omega arith in
     record { forward = omega arith; in_range = omega arith; utf8 = rw size IsUtf8-nil }
+
+-- what stands between the brackets of an IRI is text
+pub iri_text : (bytes : List ℕ) (i j : ℕ) → (t : IsIri bytes i j) → (slice_range bytes (i + 1) (j - 1) ≡ encodes t.inner.characters) × IsUtf8 (slice_range bytes (i + 1) (j - 1))
+iri_text bytes i j t =
+    let last : j - 1 ≡ t.inner_end = (let e = t.closes.ends in omega arith) in
+    let cut = slice_of bytes (i + 1) t.inner_end (encodes t.inner.characters) t.inner.stand in
+    rw last (cut, utf8_at bytes (i + 1) t.inner_end (encodes t.inner.characters) t.inner.stand (characters_utf8 _ bytes (i + 1) t.inner_end t.inner))

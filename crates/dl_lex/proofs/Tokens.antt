@@ -1,23 +1,23 @@
 -- Which tokens stand at a place, by the byte that stands there.
-use Rattle.std.proofs.Common.{◌≡◌, ◌≢◌, ℕ, zero, suc, ◌+◌, ◌-◌, ◌<◌, ◌≤◌, ◌⊎◌, inl, inr, Bool, true, false, cond, eqb, Option, Some, None, List, [], ◌∷◌, ◌++◌, length, get_or, take, drop, refl, sym, ap, ◌∙◌, subst, arith, rules}
-use Rattle.std.specs.List.{All, slice_get, slice_range, list_any, list_all}
+use Rattle.std.proofs.Common.{◌≡◌, ◌≢◌, ℕ, ◌+◌, ◌<◌, ◌≤◌, ◌⊎◌, inl, inr, Bool, true, false, cond, eqb, Option, Some, None, List, [], ◌∷◌, length, get_or, drop, sym, ap, ◌∙◌, subst, arith}
+use Rattle.std.specs.List.{All, slice_range, list_any, list_all}
 use Rattle.std.specs.Option.{option_map}
-use Rattle.std.proofs.Math.Utf8.{encode, encodes}
-use Rattle.std.specs.Char.{IsScalar, is_ascii_digit}
-use Rattle.std.proofs.lemmas.Bool.{cases_lt, false≢true}
+use Rattle.std.proofs.Math.Utf8.{encodes}
+use Rattle.std.specs.Char.{is_ascii_digit}
+use Rattle.std.proofs.lemmas.Bool.{cases_lt}
 use Rattle.std.proofs.lemmas.Bool.Decides.{nat_tests}
 use Rattle.std.proofs.lemmas.List.{get_or-drop}
 use Rattle.std.proofs.lemmas.List.Elements.{All-head}
 use Rattle.std.proofs.lemmas.Option.{slice_get_within, slice_get-get_or, get_or_from_slice_get}
 use Rattle.dl_lex.specs.declared.token.TokenKind.{TokenKind}
 use Rattle.dl_lex.specs.declared.token.TokenKind.TheVariants.{Open, Close, Equals, Caret, Iri, Text, Lang, Node, Short, Number, Word, End}
-use Rattle.dl_lex.specs.Characters.{StandsAt, IsCharacterAt, NoCharacterAt, AreCharacters, IsLongestRun, is_run_character, is_comment_character}
+use Rattle.dl_lex.specs.Characters.{StandsAt, IsLongestRun, is_run_character, is_comment_character}
 use Rattle.dl_lex.specs.Grammar.{is_white_space, Skips, nothing, white_space, comment, IsIri, IsText, IsLang, IsRun, is_node, run_kind, IsTokenAt}
 use Rattle.dl_lex.specs.Keywords.{keyword_of}
 use Rattle.dl_lex.specs.declared.keyword.Keyword.{Keyword}
 use Rattle.dl_lex.specs.Scanning.{NoTokenAt, SkipsOne, IsRunByte}
 use Rattle.dl_lex.proofs.Places.{ascii_character}
-use Rattle.dl_lex.proofs.Runs.{first_stands, one_run}
+use Rattle.dl_lex.proofs.Runs.{first_stands}
 
 -- neither white space nor a comment begins
 pub skip_nothing : (bytes : List ℕ) (i : ℕ) → i ≤ length bytes → (i < length bytes → (is_white_space (get_or bytes i 0) ≡ false) × (get_or bytes i 0 ≢ 35)) → Skips bytes i i

@@ -1,17 +1,16 @@
 -- At each place one token begins at most, and of one kind.
-use Rattle.std.proofs.Common.{◌≡◌, ◌≢◌, ℕ, zero, suc, ◌+◌, ◌-◌, ◌<◌, ◌≤◌, ◌⊎◌, inl, inr, Bool, true, false, Option, Some, None, List, [], ◌∷◌, ◌++◌, length, get_or, refl, sym, ap, ◌∙◌, subst, arith, rules}
+use Rattle.std.proofs.Common.{◌≡◌, ℕ, ◌+◌, ◌<◌, ◌≤◌, ◌⊎◌, inl, inr, true, Option, Some, List, [], ◌∷◌, length, refl, sym, ap, ◌∙◌, subst, arith}
 use Rattle.std.specs.List.{slice_get, slice_range}
 use Rattle.std.proofs.lemmas.Bool.{cases_lt, false≢true}
 use Rattle.dl_lex.specs.declared.token.TokenKind.{TokenKind}
 use Rattle.dl_lex.specs.declared.token.TokenKind.TheVariants.{Open, Close, Equals, Caret, Iri, Text, Lang, Node, Short, Number, Word, End}
 use Rattle.dl_lex.specs.declared.token.Token.{Token}
-use Rattle.dl_lex.specs.Characters.{StandsAt, IsLongestRun, is_comment_character, is_iri_character, is_lang_character, is_run_character}
-use Rattle.dl_lex.specs.Grammar.{is_white_space, Skips, nothing, white_space, comment, IsIri, IsText, IsLang, IsRun, run_kind, IsTokenAt, IsNextToken, IsFaultAt}
+use Rattle.dl_lex.specs.Characters.{StandsAt, is_comment_character, is_iri_character, is_lang_character, is_run_character}
+use Rattle.dl_lex.specs.Grammar.{is_white_space, Skips, nothing, white_space, comment, IsRun, run_kind, IsTokenAt, IsNextToken, IsFaultAt}
 use Rattle.dl_lex.proofs.Runs.{one_run}
 use Rattle.dl_lex.proofs.Tokens.{form, form_of_token, as_run}
 use Rattle.dl_lex.proofs.Quoted.{rest_from_text, one_rest}
 use Rattle.dl_lex.proofs.Ends.{iri_ends}
-use Rattle.dl_lex.proofs.Ranges.{skips_forward, token_in_place}
 
 same_byte : (o : Option ℕ) (b c : ℕ) → o ≡ Some b → o ≡ Some c → b ≡ c
 same_byte o b c p q = cc

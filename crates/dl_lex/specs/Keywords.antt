@@ -1,5 +1,5 @@
 -- The keywords of OWL 2 functional-style syntax.
-use Rattle.std.specs.Prelude.{ℕ, List, [], ◌∷◌, Option, codes, find}
+use Rattle.std.specs.Prelude.{ℕ, List, Option, codes, find}
 use Rattle.std.specs.Str.{bytes_eq}
 use Rattle.dl_lex.specs.declared.keyword.Keyword.{Keyword}
 use Rattle.dl_lex.specs.declared.keyword.Keyword.TheVariants.{SubClassOf, ObjectSomeValuesFrom, ClassAssertion, ObjectPropertyAssertion, Declaration, Class, NamedIndividual, ObjectInverseOf, ObjectProperty, SubObjectPropertyOf, ObjectPropertyDomain, ObjectPropertyRange, AnnotationAssertion, Annotation, ObjectIntersectionOf, ObjectComplementOf, EquivalentClasses, DisjointClasses, InverseObjectProperties, EquivalentObjectProperties, DisjointObjectProperties, SymmetricObjectProperty, AsymmetricObjectProperty, IrreflexiveObjectProperty, DifferentIndividuals, AnnotationProperty, Datatype, DataProperty, SubAnnotationPropertyOf, AnnotationPropertyDomain, AnnotationPropertyRange, Prefix, Ontology, Import, DataPropertyAssertion, DataSomeValuesFrom, SubDataPropertyOf, EquivalentDataProperties, DisjointDataProperties, DataPropertyDomain, DataPropertyRange, ReflexiveObjectProperty, DatatypeDefinition, FunctionalObjectProperty, InverseFunctionalObjectProperty, TransitiveObjectProperty, FunctionalDataProperty, DisjointUnion, HasKey, SameIndividual, NegativeObjectPropertyAssertion, NegativeDataPropertyAssertion, ObjectPropertyChain, ObjectUnionOf, ObjectOneOf, ObjectAllValuesFrom, ObjectHasValue, ObjectHasSelf, ObjectMinCardinality, ObjectMaxCardinality, ObjectExactCardinality, DataAllValuesFrom, DataHasValue, DataMinCardinality, DataMaxCardinality, DataExactCardinality, DataIntersectionOf, DataUnionOf, DataComplementOf, DataOneOf, DatatypeRestriction}

@@ -31,7 +31,8 @@ impl Class {
     fn wide_after(self, bytes: &[u8], at: usize) -> Option<usize>
         requires in_bounds { at < length bytes.now }
         requires wide { 128 ≤ slice_index bytes.now at }
-        ensures { MatchOption result (NoCharacterAt (admits self) bytes.now at) (IsCharacterAt (admits self) bytes.now at) }
+        ensures { MatchOption result (NoCharacterAt (admits self) bytes.now at)
+            (IsCharacterAt (admits self) bytes.now at) }
     {
         match self {
             Class::Lang => None,
@@ -71,7 +72,8 @@ pub fn run_end(bytes: &[u8], from: usize, class: Class) -> usize
 /// The place after the character that stands at a place, if the class has it.
 fn after(bytes: &[u8], at: usize, class: Class) -> Option<usize>
     requires { at ≤ length bytes.now }
-    ensures { MatchOption result (NoCharacterAt (admits class) bytes.now at) (IsCharacterAt (admits class) bytes.now at) }
+    ensures { MatchOption result (NoCharacterAt (admits class) bytes.now at)
+        (IsCharacterAt (admits class) bytes.now at) }
 {
     if at == bytes.len() {
         return None;
@@ -89,7 +91,8 @@ fn after(bytes: &[u8], at: usize, class: Class) -> Option<usize>
 /// The place after the character that stands at a place, if one does.
 fn character_end(bytes: &[u8], at: usize) -> Option<usize>
     requires { at < length bytes.now }
-    ensures { MatchOption result (NoCharacterAt (λ _. true) bytes.now at) (IsCharacterAt (λ _. true) bytes.now at) }
+    ensures { MatchOption result (NoCharacterAt (λ _. true) bytes.now at)
+        (IsCharacterAt (λ _. true) bytes.now at) }
 {
     let width = width(bytes[at]);
     if bytes.len() - at < width {

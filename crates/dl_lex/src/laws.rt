@@ -8,9 +8,12 @@ ghost use Rattle.dl_lex.specs.Grammar.{IsNextToken, IsFaultAt};
 /// A law: from a place one token at most is the next, of one kind, and a fault comes at one place at most and only
 /// where no token is the next.
 pub fn tokens_are_unique()
-    ensures one_token { (bytes : List ℕ) (place : ℕ) (s t : Token) → IsNextToken bytes place s → IsNextToken bytes place t → s ≡ t }
-    ensures fault_or_token { (bytes : List ℕ) (place at : ℕ) (t : Token) → IsFaultAt bytes place at → ¬ IsNextToken bytes place t }
-    ensures one_fault { (bytes : List ℕ) (place f g : ℕ) → IsFaultAt bytes place f → IsFaultAt bytes place g → f ≡ g }
+    ensures one_token { (bytes : List ℕ) (place : ℕ) (s t : Token)
+        → IsNextToken bytes place s → IsNextToken bytes place t → s ≡ t }
+    ensures fault_or_token { (bytes : List ℕ) (place at : ℕ) (t : Token)
+        → IsFaultAt bytes place at → ¬ IsNextToken bytes place t }
+    ensures one_fault { (bytes : List ℕ) (place f g : ℕ)
+        → IsFaultAt bytes place f → IsFaultAt bytes place g → f ≡ g }
 {}
 
 /// A law: each keyword is spelled by its text, and by no other.

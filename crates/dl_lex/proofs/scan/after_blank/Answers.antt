@@ -1,4 +1,4 @@
-use Rattle.std.proofs.Common.{◌<◌, length, sym, ◌∙◌, arith, rules}
+use Rattle.std.proofs.Common.{◌<◌, length, arith, rules}
 use Rattle.dl_lex.proofs.Tokens.{skip_nothing, skip_white_space, skip_comment}
 use Rattle.dl_lex.proofs.scan.after_blank.Goals as goal
 

@@ -1,4 +1,3 @@
-use Rattle.std.proofs.Common.{◌≡◌, ℕ, ◌+◌, ◌<◌, length, slice_index, arith, rules}
 use Rattle.std.proofs.lemmas.Bool.{false≢true}
 use Rattle.dl_lex.proofs.Tokens.{no_caret, caret_bytes}
 use Rattle.dl_lex.proofs.scan.caret.Goals as goal

@@ -1,6 +1,4 @@
-use Rattle.std.proofs.Common.{◌≡◌, ℕ, ◌<◌, Some, None, Option, refl, sym, ◌∙◌, subst, arith, rules}
-use Rattle.dl_lex.specs.declared.token.TokenKind.{TokenKind}
-use Rattle.dl_lex.specs.Characters.{IsLongestRun, is_run_character}
+use Rattle.std.proofs.Common.{◌<◌, refl, sym, ◌∙◌, arith}
 use Rattle.dl_lex.specs.Grammar.{IsRun}
 use Rattle.dl_lex.proofs.Tokens.{no_run, run_byte, token_of_run, none_is_some}
 use Rattle.dl_lex.proofs.Ends.{no_run_at}

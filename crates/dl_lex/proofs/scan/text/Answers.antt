@@ -1,4 +1,4 @@
-use Rattle.std.proofs.Common.{refl, rules}
+use Rattle.std.proofs.Common.{refl}
 use Rattle.dl_lex.proofs.Tokens.{no_text}
 use Rattle.dl_lex.proofs.Quoted.{text_from_rest, rest_from_text}
 use Rattle.dl_lex.proofs.scan.text.Goals as goal

@@ -1,5 +1,4 @@
-use Rattle.std.proofs.Common.{◌≡◌, ℕ, ◌≤◌, sym, subst, arith}
-use Rattle.dl_lex.specs.Reading.{Reading}
+use Rattle.std.proofs.Common.{◌≤◌, sym, subst, arith}
 use Rattle.dl_lex.proofs.Ranges.{skips_forward, token_in_place}
 use Rattle.dl_lex.proofs.lexer.Lexer.next.Goals as goal
 
