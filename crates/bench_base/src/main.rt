@@ -1,0 +1,23 @@
+//! Runs a base crate on an input that it makes, and prints counts. `bench/` times it from outside.
+#![tactic(auto)]
+
+mod reach;
+
+use std::process::ExitCode;
+use std::{env, io};
+
+fn main(rt: HostRuntime) -> io::Result<ExitCode> {
+    let mut words = Vec::new(rt.alloc());
+    for word in env::args(&rt)?.skip(1) {
+        words.push(word)?;
+    }
+    let done = match words.first() {
+        Some(word) if word.as_str() == "reach" => reach::run(&rt, &words)?,
+        _ => false,
+    };
+    if done {
+        return Ok(ExitCode::SUCCESS);
+    }
+    eprintln!(rt; "bench_base {}", reach::WORDS)?;
+    Ok(ExitCode::FAILURE)
+}

@@ -1,0 +1,4 @@
+pub mod Chain
+pub mod Digraph
+pub mod Matrix
+pub mod Search

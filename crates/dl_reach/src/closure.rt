@@ -1,0 +1,129 @@
+ghost use Rattle.std.specs.Prelude.{◌≡◌, ℕ, ◌+◌, ◌*◌, ◌<◌, ◌≤◌, ◌↔◌, ◌⊎◌, length, IfOk, IsTrue, Contains};
+ghost use Rattle.std.specs.List.Sorted.{IsNonDecreasingBy};
+ghost use Rattle.dl_reach.specs.Chain.{Chain};
+ghost use Rattle.dl_reach.specs.Digraph.{Digraph, IsEdge, Leads, EndsBelow, AreConnected};
+ghost use Rattle.dl_reach.specs.Matrix.{HasBit, HasChains};
+
+use crate::graph::Graph;
+use crate::matrix::{close, follow_all, has_bit, set_bits, set_diagonal};
+use crate::order::order;
+use std::alloc::{AllocError, Global};
+use std::marker::Model;
+
+/// Which nodes of a graph chains of edges lead to, from each node: a bit for each two nodes, beside the graph
+/// that it stands for.
+#[derive(Drop)]
+pub struct Closure {
+    graph: Graph,
+    width: usize,
+    words: Vec<u64>,
+}
+
+impl Model for Closure {
+    ghost Value = { Digraph };
+
+    ghost view = { λ c. c.graph };
+
+    ghost invariant = { λ c. record {
+      wide : c.graph.nodes ≤ 64 * c.width;
+      len : length c.words.items ≡ c.graph.nodes * c.width;
+      chains : HasChains c.words.items c.width c.graph.nodes c.graph.edges;
+    } };
+}
+
+impl Closure {
+    /// The closure of the graph. Fails only for want of memory.
+    pub(crate) fn of(alloc: Global, graph: Graph) -> Result<Closure, AllocError>
+        ensures { IfOk result (λ c. c ≡ graph) }
+    {
+        let width = (graph.nodes() as usize).div_ceil(64);
+        let words = chain_bits(alloc, graph.nodes(), width, graph.edges())?;
+        Ok(Closure {
+            graph,
+            width,
+            words,
+        })
+    }
+
+    /// Whether a chain of edges leads from the one node to the other. The empty chain counts.
+    pub fn has(&self, from: u32, to: u32) -> bool
+        requires from { from < self.now.nodes }
+        requires to { to < self.now.nodes }
+        ensures { IsTrue result ↔ Chain (IsEdge self.now) from to }
+    {
+        has_bit(&self.words, self.width, from as usize, to as usize)
+    }
+
+    /// The least node that chains lead to from this one and back.
+    pub fn class_of(&self, node: u32) -> u32
+        requires { node < self.now.nodes }
+        ensures mutual { AreConnected self.now node result }
+        ensures least { (other : ℕ) → AreConnected self.now node other → result ≤ other }
+    {
+        least_connected(&self.words, self.width, node)
+    }
+
+    /// How many nodes there are: the nodes are the numbers below.
+    pub fn nodes(&self) -> u32
+        ensures count { result ≡ self.now.nodes }
+        ensures few { result ≤ 16384 }
+    {
+        self.graph.nodes()
+    }
+}
+
+// The bits of all chains of the edges.
+fn chain_bits(
+    alloc: Global,
+    nodes: u32,
+    width: usize,
+    edges: &[(u32, u32)],
+) -> Result<Vec<u64>, AllocError>
+    requires few { nodes ≤ 16384 }
+    requires wide { nodes ≤ 64 * width }
+    requires narrow { width ≤ 256 }
+    requires ends { EndsBelow nodes edges.now }
+    requires sorted { IsNonDecreasingBy (λ e. e.0) edges.now }
+    ensures len { IfOk result (λ words. length words.items ≡ nodes * width) }
+    ensures chains { IfOk result (λ words. HasChains words.items width nodes edges.now) }
+{
+    let order = order(alloc, nodes, edges)?;
+    let mut words = vec![in alloc; 0u64; nodes as usize * width]?;
+    fill(&mut words, width, nodes, edges, &order);
+    Ok(words)
+}
+
+// Sets the bits of all chains. The order only makes the last loop short: it may be any pairs of nodes.
+fn fill(words: &mut [u64], width: usize, nodes: u32, edges: &[(u32, u32)], order: &[(u32, u32)])
+    requires empty { (a b : ℕ) → HasBit words.old width a b → ⊥ }
+    requires len { length words.old ≡ nodes * width }
+    requires wide { nodes ≤ 64 * width }
+    requires ends { EndsBelow nodes edges.now }
+    requires order { EndsBelow nodes order.now }
+    ensures { HasChains words.new width nodes edges.now }
+{
+    set_diagonal(words, width, nodes as usize);
+    set_bits(words, width, edges);
+    let _ = follow_all(words, width, order);
+    close(words, width, edges);
+}
+
+// The least node with bits both ways.
+fn least_connected(words: &[u64], width: usize, node: u32) -> u32
+    requires rows { (node + 1) * width ≤ length words.now }
+    requires columns { node < 64 * width }
+    requires own { HasBit words.now width node node }
+    ensures mutual { HasBit words.now width node result × HasBit words.now width result node }
+    ensures within { result ≤ node }
+    ensures least { (other : ℕ) → other < result
+        → HasBit words.now width node other → HasBit words.now width other node → ⊥ }
+{
+    for other in 0..node {
+        if has_bit(words, width, node as usize, other as usize)
+            && has_bit(words, width, other as usize, node as usize)
+        {
+            return other;
+        }
+    }
+    node
+}

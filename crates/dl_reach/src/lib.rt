@@ -1,0 +1,17 @@
+//! Reachability in a directed graph: which nodes chains of edges lead to.
+#![tactic(auto)]
+
+mod closure;
+mod edges;
+mod graph;
+mod matrix;
+mod memory;
+mod order;
+mod search;
+
+pub use closure::Closure;
+pub use graph::Graph;
+pub use memory::NoMemory;
+
+#[cfg(test)]
+mod tests;

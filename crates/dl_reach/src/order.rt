@@ -1,0 +1,172 @@
+// The order in which rows are united: Tarjan's depth-first search for strong components.
+ghost use Rattle.std.specs.Prelude.{◌≡◌, ℕ, ◌+◌, ◌^◌, ◌<◌, ◌≤◌, IfOk, All, vec_len};
+ghost use Rattle.std.specs.List.Sorted.{IsNonDecreasingBy};
+ghost use Rattle.dl_reach.specs.Digraph.{EndsBelow};
+
+use crate::edges::{edges_from, place_of};
+use std::alloc::{AllocError, Global};
+
+/// Pairs of nodes along which to unite rows, such that each row is whole after one pass. Nothing rests on
+/// that but speed, so it is not proved.
+pub fn order(alloc: Global, nodes: u32, edges: &[(u32, u32)]) -> Result<Vec<(u32, u32)>, AllocError>
+    requires few { nodes ≤ 16384 }
+    requires ends { EndsBelow nodes edges.now }
+    requires sorted { IsNonDecreasingBy (λ e. e.0) edges.now }
+    ensures { IfOk result (λ pairs. EndsBelow nodes pairs.items) }
+{
+    let mut search = Search::new(alloc, nodes)?;
+    for root in 0..nodes {
+        if search.places[root as usize] == 0 {
+            search.run(root, edges)?;
+        }
+    }
+    let Search { pairs, .. } = search;
+    Ok(pairs)
+}
+
+// A depth-first search over nodes and edges.
+#[derive(Drop)]
+struct Search {
+    nodes: u32,
+    // for each node the place of the edge that comes next
+    next: Vec<usize>,
+    // for each node 0 before it is reached, then its place among the pending ones, from 1, and at last `CLOSED`
+    places: Vec<usize>,
+    // for each node the pending node with the least place that is known to be reached from it
+    lowest: Vec<u32>,
+    // the nodes that were reached, and whose component is not whole yet
+    pending: Vec<u32>,
+    // the nodes from the root to the one whose edges are followed
+    path: Vec<u32>,
+    // the pairs so far
+    pairs: Vec<(u32, u32)>,
+    ghost few: { nodes ≤ 16384 },
+    ghost next_len: { vec_len next ≡ nodes },
+    ghost places_len: { vec_len places ≡ nodes },
+    ghost lowest_len: { vec_len lowest ≡ nodes },
+    ghost lowest_below: { All (λ node. node < nodes) lowest.items },
+    ghost pending_below: { All (λ node. node < nodes) pending.items },
+    ghost path_below: { All (λ node. node < nodes) path.items },
+    ghost pairs_below: { EndsBelow nodes pairs.items },
+}
+
+const CLOSED: usize = usize::MAX;
+
+impl Search {
+    fn new(alloc: Global, nodes: u32) -> Result<Search, AllocError>
+        requires { nodes ≤ 16384 }
+        ensures { IfOk result (λ search. search.nodes ≡ nodes) }
+    {
+        Ok(Search {
+            nodes,
+            next: vec![in alloc; 0; nodes as usize]?,
+            places: vec![in alloc; 0; nodes as usize]?,
+            lowest: vec![in alloc; 0; nodes as usize]?,
+            pending: Vec::new(alloc),
+            path: Vec::new(alloc),
+            pairs: Vec::new(alloc),
+        })
+    }
+
+    // Searches from a node. Each turn follows an edge or leaves a node.
+    fn run(&mut self, root: u32, edges: &[(u32, u32)]) -> Result<(), AllocError>
+        requires root { root < self.old.nodes }
+        requires ends { EndsBelow self.old.nodes edges.now }
+        requires sorted { IsNonDecreasingBy (λ e. e.0) edges.now }
+        ensures { self.new.nodes ≡ self.old.nodes }
+    {
+        self.enter(root, edges)?;
+        for _ in 0..edges.len() + self.nodes as usize {
+            let Some(node) = self.path.last().copied() else {
+                break;
+            };
+            self.turn(node, edges)?;
+        }
+        Ok(())
+    }
+
+    // Follows the next edge of the last node of the path, or leaves that node.
+    fn turn(&mut self, node: u32, edges: &[(u32, u32)]) -> Result<(), AllocError>
+        requires node { node < self.old.nodes }
+        requires ends { EndsBelow self.old.nodes edges.now }
+        requires sorted { IsNonDecreasingBy (λ e. e.0) edges.now }
+        ensures { self.new.nodes ≡ self.old.nodes }
+    {
+        let at = self.next[node as usize];
+        if at >= edges.len() || edges[at].0 != node {
+            let _ = self.path.pop();
+            return self.leave(node, edges);
+        }
+        self.next[node as usize] = at + 1;
+        let to = edges[at].1;
+        if self.places[to as usize] == 0 {
+            return self.enter(to, edges);
+        }
+        self.lower(node, to);
+        Ok(())
+    }
+
+    fn enter(&mut self, node: u32, edges: &[(u32, u32)]) -> Result<(), AllocError>
+        requires node { node < self.old.nodes }
+        requires sorted { IsNonDecreasingBy (λ e. e.0) edges.now }
+        ensures { self.new.nodes ≡ self.old.nodes }
+    {
+        self.pending.push(node)?;
+        self.path.push(node)?;
+        self.places[node as usize] = self.pending.len();
+        self.next[node as usize] = place_of(edges, node);
+        self.lowest[node as usize] = node;
+        Ok(())
+    }
+
+    // Takes the node as reached from the other, where it is lower than what was.
+    fn lower(&mut self, node: u32, reached: u32)
+        requires node { node < self.old.nodes }
+        requires reached { reached < self.old.nodes }
+        ensures { self.new.nodes ≡ self.old.nodes }
+    {
+        let lowest = self.lowest[node as usize];
+        if self.places[reached as usize] < self.places[lowest as usize] {
+            self.lowest[node as usize] = reached;
+        }
+    }
+
+    // Ends the search of the edges of a node.
+    fn leave(&mut self, node: u32, edges: &[(u32, u32)]) -> Result<(), AllocError>
+        requires node { node < self.old.nodes }
+        requires ends { EndsBelow self.old.nodes edges.now }
+        requires sorted { IsNonDecreasingBy (λ e. e.0) edges.now }
+        ensures { self.new.nodes ≡ self.old.nodes }
+    {
+        let lowest = self.lowest[node as usize];
+        if lowest == node {
+            let place = self.places[node as usize];
+            self.close(place, edges)?;
+        }
+        if let Some(parent) = self.path.last().copied() {
+            self.lower(parent, lowest);
+        }
+        Ok(())
+    }
+
+    // Closes the component of the pending nodes from a place on: first the edges of its nodes, the last reached
+    // first, which makes the row of its first node whole, and then each node with a lower one.
+    fn close(&mut self, place: usize, edges: &[(u32, u32)]) -> Result<(), AllocError>
+        requires ends { EndsBelow self.old.nodes edges.now }
+        requires sorted { IsNonDecreasingBy (λ e. e.0) edges.now }
+        ensures { self.new.nodes ≡ self.old.nodes }
+    {
+        let start = place.saturating_sub(1).min(self.pending.len());
+        for i in (start..self.pending.len()).rev() {
+            self.pairs
+                .extend_from_slice(edges_from(edges, self.pending[i]))?;
+        }
+        for i in start..self.pending.len() {
+            let node = self.pending[i];
+            self.pairs.push((node, self.lowest[node as usize]))?;
+            self.places[node as usize] = CLOSED;
+        }
+        self.pending.truncate(start);
+        Ok(())
+    }
+}
