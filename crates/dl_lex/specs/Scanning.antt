@@ -37,6 +37,7 @@ pub record IsEscapeAt (bytes : List ℕ) (i j : ℕ) : Type 0 where
   pub is : (escaped ≡ 34) ⊎ (escaped ≡ 92)
   pub stands : StandsAt bytes i (92 ∷ escaped ∷ []) j
 
+-- no such pair begins at i
 abbrev pub NoEscapeAt : List ℕ → ℕ → Type 0
 NoEscapeAt bytes i = (j : ℕ) → ¬ IsEscapeAt bytes i j
 

@@ -118,3 +118,10 @@ fn tokens_are_the_grammars(rt: HostRuntime) -> Result<(), Fail> {
     }
     Ok(())
 }
+
+#[test]
+fn keywords_are_their_texts(rt: HostRuntime) {
+    assert_eq!(rt; Keyword::of(b"HasKey"), Some(Keyword::HasKey));
+    assert_eq!(rt; Keyword::of(b"Haskey"), None);
+    assert_eq!(rt; Keyword::DatatypeRestriction.text().len(), 19);
+}
