@@ -1,5 +1,5 @@
 // The lexer.
-ghost use Rattle.std.specs.Prelude.{◌≡◌, ◌≤◌, slice_range, IfOk, IfErr, OnErr};
+ghost use Rattle.std.specs.Prelude.{◌≡◌, ◌≤◌, length, slice_range, IfOk, IfErr, OnErr};
 ghost use Rattle.std.specs.Str.{IsUtf8};
 ghost use Rattle.dl_lex.specs.Grammar.{IsNextToken, IsFaultAt};
 
@@ -44,7 +44,8 @@ impl<'a> Lexer<'a> {
         ensures moves { IfOk result (λ t. self.new ≡ record { bytes = self.old.bytes; place = t.end }) }
         ensures stays { OnErr result (self.new ≡ self.old) }
 
-        // Tokens are in order and do not overlap, and no token cuts a character.
+        // Tokens are in order and do not overlap, stand within the bytes, and no token cuts a character.
+        ensures in_bounds { IfOk result (λ t. t.end ≤ length self.old.bytes) }
         ensures in_order { IfOk result (λ t. (self.old.place ≤ t.start) × (t.start ≤ t.end)) }
         ensures text { IfOk result (λ t. IsUtf8 (slice_range self.old.bytes t.start t.end)) }
     {

@@ -14,6 +14,13 @@ returns-in-Some-clause-in_order c =
     let stands = subst (λ n. n ≤ c.in-Some.token.end) (sym starts) (token_in_place bytes c.in-Some.token.kind c.skip-start.result c.in-Some.token.end found.stands).forward in
     rw (← c.self.view_is) (omega arith, stands)
 
+pub returns-in-Some-clause-in_bounds : goal.returns-in-Some-clause-in_bounds
+returns-in-Some-clause-in_bounds c =
+    let bytes = c.self.inside.bytes.now in
+    let found = c.in-Some.ensures in
+    let place = token_in_place bytes c.in-Some.token.kind c.skip-start.result c.in-Some.token.end found.stands in
+    rw (← c.self.view_is) place.in_range
+
 pub returns-in-Some-clause-text : goal.returns-in-Some-clause-text
 returns-in-Some-clause-text c =
     let bytes = c.self.inside.bytes.now in
