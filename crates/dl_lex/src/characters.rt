@@ -44,17 +44,20 @@ impl Class {
 fn is_iri_character(byte: u8) -> bool
     ensures { result ≡ is_iri_character byte }
 {
-    byte > b' '
-        && !matches!(
-            byte,
-            b'<' | b'>' | b'"' | b'{' | b'}' | b'|' | b'^' | b'`' | b'\\'
-        )
+    byte.is_ascii_alphanumeric()
+        || byte > b' '
+            && !matches!(
+                byte,
+                b'<' | b'>' | b'"' | b'{' | b'}' | b'|' | b'^' | b'`' | b'\\'
+            )
 }
 
 fn is_run_character(byte: u8) -> bool
     ensures { result ≡ is_run_character byte }
 {
-    is_iri_character(byte) && !matches!(byte, b'(' | b')' | b'=' | b'@' | b'#')
+    // Most bytes are letters and digits, and this is the loop that all of them go through.
+    byte.is_ascii_alphanumeric()
+        || is_iri_character(byte) && !matches!(byte, b'(' | b')' | b'=' | b'@' | b'#')
 }
 
 /// The end of the longest run of characters of a class.
