@@ -1,6 +1,7 @@
 //! Runs a base crate on an input that it makes, and prints counts. `bench/` times it from outside.
 #![tactic(auto)]
 
+mod lex;
 mod reach;
 
 use std::process::ExitCode;
@@ -13,11 +14,13 @@ fn main(rt: HostRuntime) -> io::Result<ExitCode> {
     }
     let done = match words.first() {
         Some(word) if word.as_str() == "reach" => reach::run(&rt, &words)?,
+        Some(word) if word.as_str() == "lex" => lex::run(&rt, &words)?,
         _ => false,
     };
     if done {
         return Ok(ExitCode::SUCCESS);
     }
     eprintln!(rt; "bench_base {}", reach::WORDS)?;
+    eprintln!(rt; "bench_base {}", lex::WORDS)?;
     Ok(ExitCode::FAILURE)
 }

@@ -1,0 +1,8 @@
+pub mod Places
+pub mod Runs
+pub mod Tokens
+pub mod Quoted
+pub mod Ends
+pub mod Ranges
+pub mod Unique
+pub mod Spelled

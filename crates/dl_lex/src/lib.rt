@@ -1,0 +1,16 @@
+// The tokens of OWL 2 functional-style syntax.
+#![tactic(auto)]
+
+mod characters;
+mod keyword;
+mod laws;
+mod lexer;
+mod scan;
+#[cfg(test)]
+mod tests;
+mod token;
+
+pub use keyword::Keyword;
+pub use laws::{keywords_are_unique, tokens_are_unique};
+pub use lexer::Lexer;
+pub use token::{LexFault, Token, TokenKind};
