@@ -1,12 +1,11 @@
 -- The certain answers and the first broken axiom are determined.
-use Rattle.std.proofs.Common.{◌≡◌, ℕ, suc, List, [], ◌∷◌, ◌++◌, length, refl, sym, ap, subst, ◌∙◌, arith}
-use Rattle.std.specs.List.{All, Contains}
+use Rattle.std.proofs.Common.{◌≡◌, ℕ, suc, List, [], ◌∷◌, ◌++◌, sym, ap, subst, ◌∙◌, arith}
+use Rattle.std.specs.List.{All}
 use Rattle.std.specs.declared.option.Option.{Option}
 use Rattle.std.specs.declared.cmp.Ordering.{Ordering}
-use Rattle.dl_terms.specs.Answers.{IsCertain, AreCertain}
+use Rattle.dl_terms.specs.Answers.{AreCertain}
 use Rattle.dl_terms.specs.Broken.{IsMet, IsFirstBroken}
 use Rattle.dl_terms.specs.Sets.{IsSetOf}
-use Rattle.dl_terms.specs.declared.role.Negative.{Negative}
 use Rattle.dl_terms.specs.declared.axiom.Axiom.{Axiom}
 use Rattle.dl_terms.specs.declared.axiom.Fact.{Fact}
 use Rattle.dl_terms.specs.declared.query.Query.{Query}

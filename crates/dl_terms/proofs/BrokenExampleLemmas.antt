@@ -1,21 +1,19 @@
 -- The worked examples of broken axioms.
-use Rattle.std.proofs.Common.{◌≡◌, ℕ, suc, zero, ◌<◌, ◌⊎◌, Bool, true, false, ◌&&◌, List, [], ◌∷◌, ◌++◌, map, length, is_some, Some, None, refl, sym, ap, subst, ◌∙◌, inl, inr, true≢false, lit<, arith}
-use Rattle.std.specs.List.{All, Contains, list_all, flat_map, filter_map}
+use Rattle.std.proofs.Common.{◌≡◌, ℕ, ◌⊎◌, Bool, true, ◌&&◌, List, [], ◌∷◌, ◌++◌, map, is_some, Some, None, refl, sym, ap, subst, inl, inr, true≢false, lit<}
+use Rattle.std.specs.List.{Contains, list_all, flat_map, filter_map}
 use Rattle.std.specs.declared.option.Option.{Option}
 use Rattle.std.specs.List.Sorted.{IsStrictlySortedBy}
 use Rattle.std.proofs.lemmas.List.Elements.{All-from_recursion, All-nil}
 use Rattle.dl_terms.specs.Roles.{inverse_of, named, filler_of}
 use Rattle.dl_terms.specs.Chain.{empty}
-use Rattle.dl_terms.specs.Below.{RoleBelow, RoleStep, ConceptBelow}
+use Rattle.dl_terms.specs.Below.{RoleStep, ConceptBelow}
 use Rattle.dl_terms.specs.NormalForm.{negatives, axiom_negatives, axiom_rows, as_negative}
-use Rattle.dl_terms.specs.Structure.{HoldsAtName, by_class, Element, individual, child, HoldsAt, at_name, at_end, by_fact}
-use Rattle.dl_terms.specs.Answers.{IsMatch}
-use Rattle.dl_terms.specs.Broken.{IsMet, IsFirstBroken, NothingIsBroken, query_of}
+use Rattle.dl_terms.specs.Structure.{HoldsAtName, by_class, individual, child, HoldsAt, at_name, at_end, by_fact}
+use Rattle.dl_terms.specs.Broken.{IsMet, IsFirstBroken, NothingIsBroken}
 use Rattle.dl_terms.specs.Order.{axiom_cmp}
 use Rattle.dl_terms.specs.Sets.{IsSetOf}
 use Rattle.dl_terms.specs.Examples.{class_a, class_c, class_d, property_p, name_a, a_is_an_a, a_filler_in_c_and_d, c_and_d_are_disjoint, p_is_asymmetric, p_is_irreflexive, an_a_is_a_d, a_is_disjoint_from_itself}
 use Rattle.dl_terms.specs.declared.role.Role.{Role}
-use Rattle.dl_terms.specs.declared.role.Basic.{Basic}
 use Rattle.dl_terms.specs.declared.role.Basic.TheVariants as basic
 use Rattle.dl_terms.specs.declared.role.Negative.{Negative}
 use Rattle.dl_terms.specs.declared.role.Negative.TheVariants.{Basics, Roles}

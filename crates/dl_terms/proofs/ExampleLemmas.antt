@@ -1,37 +1,24 @@
 -- The worked examples.
-use Rattle.std.proofs.Common.{◌≡◌, ℕ, suc, zero, ◌<◌, ◌⊎◌, ◌↔◌, Bool, true, false, List, [], ◌∷◌, ◌++◌, map, length, replicate, Some, None, refl, sym, ap, ap₂, subst, ◌∙◌, inl, inr, true≢false, lit<, arith}
+use Rattle.std.proofs.Common.{◌≡◌, ℕ, suc, zero, ◌⊎◌, List, [], ◌∷◌, length, replicate, refl, sym, ap, ap₂, subst, ◌∙◌, inl, inr, true≢false, lit<, arith}
 use Rattle.std.proofs.lemmas.List.{length-replicate}
-use Rattle.std.specs.List.{All, Contains, list_all}
-use Rattle.std.specs.Option.{is_some}
-use Rattle.std.specs.declared.option.Option.{Option}
-use Rattle.std.specs.declared.cmp.Ordering.TheVariants.{Less}
+use Rattle.std.specs.List.{Contains}
 use Rattle.std.specs.List.Sorted.{IsStrictlySortedBy}
-use Rattle.std.proofs.lemmas.List.Elements.{All-from_recursion, All-nil}
-use Rattle.dl_terms.specs.Roles.{inverse_of, named, filler_of}
-use Rattle.dl_terms.specs.Chain.{empty, step}
+use Rattle.dl_terms.specs.Roles.{inverse_of, named}
+use Rattle.dl_terms.specs.Chain.{empty}
 use Rattle.dl_terms.specs.Below.{RoleBelow, RoleStep, ConceptBelow}
-use Rattle.dl_terms.specs.NormalForm.{negatives, role_inclusions, concept_inclusions}
-use Rattle.dl_terms.specs.Structure.{HoldsAtName, by_class, by_source, by_target, Element, individual, child, Follows, IsWordAt, IsElement, HoldsAt, at_name, at_end, Joins, by_fact, by_fact_turned, to_child, from_child}
-use Rattle.dl_terms.specs.Answers.{AtomHolds, IsMatch, IsCertain, AreCertain, AscendStrictly}
-use Rattle.dl_terms.specs.Broken.{IsMet, IsFirstBroken, NothingIsBroken}
-use Rattle.dl_terms.specs.Order.{axiom_cmp}
-use Rattle.dl_terms.specs.Sets.{IsSetOf}
-use Rattle.dl_terms.specs.Examples.{class_a, class_c, class_d, property_p, property_s, name_a, name_b, name_c, link, a_is_an_a, a_has_a_p, a_p_has_an_s, a_p_has_a_p, a_filler_in_c_and_d, c_and_d_are_disjoint, p_is_a_turned_s, p_is_asymmetric, p_is_irreflexive, an_a_is_a_d, a_is_disjoint_from_itself, has_a_p, is_p, share_a_p, has_a_p_with_an_s, some_loop, seven_in_a_row, is_s}
+use Rattle.dl_terms.specs.NormalForm.{concept_inclusions}
+use Rattle.dl_terms.specs.Structure.{HoldsAtName, by_class, by_target, Element, individual, child, Follows, IsElement, Joins, by_fact, by_fact_turned, to_child, from_child}
+use Rattle.dl_terms.specs.Answers.{IsCertain, AreCertain, AscendStrictly}
+use Rattle.dl_terms.specs.Examples.{class_a, property_p, property_s, name_a, name_b, name_c, link, a_is_an_a, a_has_a_p, a_p_has_an_s, a_p_has_a_p, p_is_a_turned_s, has_a_p, is_p, share_a_p, has_a_p_with_an_s, some_loop, seven_in_a_row, is_s}
 use Rattle.dl_terms.specs.declared.role.Role.{Role}
-use Rattle.dl_terms.specs.declared.role.Basic.{Basic}
 use Rattle.dl_terms.specs.declared.role.Basic.TheVariants as basic
-use Rattle.dl_terms.specs.declared.role.Negative.{Negative}
-use Rattle.dl_terms.specs.declared.role.Negative.TheVariants.{Basics, Roles}
 use Rattle.dl_terms.specs.declared.axiom.Axiom.{Axiom}
 use Rattle.dl_terms.specs.declared.axiom.Fact.{Fact}
 use Rattle.dl_terms.specs.declared.axiom.Fact.TheVariants as fact
-use Rattle.dl_terms.specs.declared.query.Query.{Query}
-use Rattle.dl_terms.proofs.MemberLemmas.{Contains-first, Contains-later, Contains-one, Contains-two, Contains-middle, All-Contains, list_all-Contains}
-use Rattle.dl_terms.proofs.BelowLemmas.{Chain-one, RoleBelow-keeps, ConceptBelow-keeps, ConceptBelow-inclusion, ConceptBelow-SomeOf, ConceptBelow-trans}
+use Rattle.dl_terms.proofs.MemberLemmas.{Contains-one, Contains-two}
+use Rattle.dl_terms.proofs.BelowLemmas.{Chain-one, RoleBelow-keeps, ConceptBelow-inclusion}
 use Rattle.dl_terms.proofs.StructureLemmas.{child-word, individual-child, child-itself, child-injective}
-use Rattle.dl_terms.proofs.AnswerLemmas.{IsSetOf-unique}
-use Rattle.dl_terms.proofs.OrderLemmas.{axioms_linear}
-use Rattle.dl_terms.proofs.MatchLemmas.{head_none, head_two, by_place, IsCertain-by_place, IsMet-by_place, HoldsAtName-class, Joins-child, Joins-individuals, HoldsAt-no_fact, is_one_of, is_role_of}
+use Rattle.dl_terms.proofs.MatchLemmas.{head_two, IsCertain-by_place, HoldsAtName-class, Joins-child, Joins-individuals, is_role_of}
 
 abbrev p : Role
 p = named property_p

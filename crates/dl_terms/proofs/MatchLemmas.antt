@@ -1,9 +1,9 @@
 -- Matches by elements written out, and what a match over class facts alone can be.
-use Rattle.std.proofs.Common.{◌≡◌, ℕ, suc, zero, ◌<◌, ◌⊎◌, Bool, true, false, List, [], ◌∷◌, ◌++◌, map, length, slice_index_or, refl, sym, ap, subst, ◌∙◌, inl, inr, true≢false, arith}
-use Rattle.std.specs.List.{All, Contains, AllByRecursion, list_all, list_any}
+use Rattle.std.proofs.Common.{◌≡◌, ℕ, ◌<◌, ◌⊎◌, Bool, true, false, List, [], ◌∷◌, ◌++◌, map, length, slice_index_or, refl, sym, ap, subst, ◌∙◌, inl, inr, true≢false, arith}
+use Rattle.std.specs.List.{Contains, AllByRecursion, list_all, list_any}
 use Rattle.std.specs.Ordering.{is_eq}
 use Rattle.std.proofs.lemmas.List.Elements.{All-from_recursion}
-use Rattle.dl_terms.specs.Roles.{inverse_of, named}
+use Rattle.dl_terms.specs.Roles.{inverse_of}
 use Rattle.dl_terms.specs.Below.{RoleBelow, ConceptBelow}
 use Rattle.dl_terms.specs.Structure.{HoldsAtName, by_class, by_source, by_target, Element, individual, child, IsWordAt, IsElement, HoldsAt, at_name, at_end, Joins, by_fact, by_fact_turned, to_child, from_child}
 use Rattle.dl_terms.specs.Answers.{AtomHolds, IsMatch, IsCertain}

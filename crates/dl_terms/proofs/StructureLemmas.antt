@@ -1,13 +1,13 @@
 -- Laws of the canonical structure: what holds at an element, and what joins it to another.
-use Rattle.std.proofs.Common.{◌≡◌, ℕ, suc, zero, List, [], ◌∷◌, ◌++◌, ◌⊎◌, ◌↔◌, length, length-append, refl, sym, ap, subst, ◌∙◌, inl, inr, arith}
+use Rattle.std.proofs.Common.{◌≡◌, ℕ, List, [], ◌∷◌, ◌++◌, ◌⊎◌, ◌↔◌, length, length-append, refl, sym, ap, subst, inl, inr, arith}
 use Rattle.std.proofs.lemmas.List.{same_from_push}
-use Rattle.dl_terms.specs.Roles.{inverse_of, named}
-use Rattle.dl_terms.specs.Below.{RoleBelow, ConceptBelow}
+use Rattle.dl_terms.specs.Roles.{inverse_of}
+use Rattle.dl_terms.specs.Below.{ConceptBelow}
 use Rattle.dl_terms.specs.Chain.{empty}
 use Rattle.dl_terms.specs.Structure.{HoldsAtName, by_class, by_source, by_target, Element, individual, child, Follows, IsWordAt, IsElement, HoldsAt, at_name, at_end, Joins, by_fact, by_fact_turned, to_child, from_child}
 use Rattle.dl_terms.specs.declared.role.Role.{Role}
 use Rattle.dl_terms.specs.declared.role.Basic.{Basic}
-use Rattle.dl_terms.specs.declared.role.Basic.TheVariants.{Class, SomeOf}
+use Rattle.dl_terms.specs.declared.role.Basic.TheVariants.{SomeOf}
 use Rattle.dl_terms.specs.declared.axiom.Axiom.{Axiom}
 use Rattle.dl_terms.specs.declared.axiom.Fact.{Fact}
 use Rattle.dl_terms.proofs.BelowLemmas.{ConceptBelow-trans, ConceptBelow-SomeOf, RoleBelow-turned}

@@ -2,7 +2,6 @@
 use Rattle.std.specs.Prelude.{ℕ, List, [], ◌∷◌}
 use Rattle.dl_terms.specs.Roles.{named, inverse_of, filler_of}
 use Rattle.dl_terms.specs.declared.role.Role.{Role}
-use Rattle.dl_terms.specs.declared.role.Basic.{Basic}
 use Rattle.dl_terms.specs.declared.role.Basic.TheVariants as basic
 use Rattle.dl_terms.specs.declared.axiom.Part.TheVariants as part
 use Rattle.dl_terms.specs.declared.axiom.Axiom.{Axiom}
@@ -39,6 +38,16 @@ name_b = 6
 abbrev pub name_c : ℕ
 name_c = 7
 
+abbrev pub role_p : Role
+role_p = named property_p
+
+abbrev pub role_s : Role
+role_s = named property_s
+
+-- the filler of P and C
+abbrev pub p_in_c : Role
+p_in_c = filler_of role_p class_c
+
 -- a role atom between two variables
 abbrev pub link : ℕ → ℕ → ℕ → Atom
 link p v w = atom.Link p (Var v) (Var w)
@@ -49,23 +58,23 @@ a_is_an_a = fact.Is class_a name_a
 
 -- SubClassOf(A ObjectSomeValuesFrom(P owl:Thing))
 abbrev pub a_has_a_p : Axiom
-a_has_a_p = SubClass (basic.Class class_a) (part.Any (named property_p) ∷ [])
+a_has_a_p = SubClass (basic.Class class_a) (part.Any role_p ∷ [])
 
 -- SubClassOf(ObjectSomeValuesFrom(ObjectInverseOf(P) owl:Thing) ObjectSomeValuesFrom(S owl:Thing))
 abbrev pub a_p_has_an_s : Axiom
-a_p_has_an_s = SubClass (basic.SomeOf (inverse_of (named property_p))) (part.Any (named property_s) ∷ [])
+a_p_has_an_s = SubClass (basic.SomeOf (inverse_of role_p)) (part.Any role_s ∷ [])
 
 -- SubClassOf(ObjectSomeValuesFrom(ObjectInverseOf(P) owl:Thing) ObjectSomeValuesFrom(P owl:Thing))
 abbrev pub a_p_has_a_p : Axiom
-a_p_has_a_p = SubClass (basic.SomeOf (inverse_of (named property_p))) (part.Any (named property_p) ∷ [])
+a_p_has_a_p = SubClass (basic.SomeOf (inverse_of role_p)) (part.Any role_p ∷ [])
 
 -- SubClassOf(A ObjectSomeValuesFrom(P C))
 abbrev pub a_has_a_p_in_c : Axiom
-a_has_a_p_in_c = SubClass (basic.Class class_a) (part.Fill (named property_p) class_c ∷ [])
+a_has_a_p_in_c = SubClass (basic.Class class_a) (part.Fill role_p class_c ∷ [])
 
 -- SubClassOf(ObjectSomeValuesFrom(ObjectInverseOf(P) owl:Thing) D)
 abbrev pub a_p_is_a_d : Axiom
-a_p_is_a_d = SubClass (basic.SomeOf (inverse_of (named property_p))) (part.Class class_d ∷ [])
+a_p_is_a_d = SubClass (basic.SomeOf (inverse_of role_p)) (part.Class class_d ∷ [])
 
 -- DisjointClasses(C D)
 abbrev pub c_and_d_are_disjoint : Axiom
@@ -73,15 +82,15 @@ c_and_d_are_disjoint = DisjointClasses (basic.Class class_c ∷ basic.Class clas
 
 -- SubObjectPropertyOf(P ObjectInverseOf(S))
 abbrev pub p_is_a_turned_s : Axiom
-p_is_a_turned_s = SubRole (named property_p) (inverse_of (named property_s))
+p_is_a_turned_s = SubRole role_p (inverse_of role_s)
 
 -- AsymmetricObjectProperty(P)
 abbrev pub p_is_asymmetric : Axiom
-p_is_asymmetric = Asymmetric (named property_p)
+p_is_asymmetric = Asymmetric role_p
 
 -- IrreflexiveObjectProperty(P)
 abbrev pub p_is_irreflexive : Axiom
-p_is_irreflexive = Irreflexive (named property_p)
+p_is_irreflexive = Irreflexive role_p
 
 -- SubClassOf(A D), where D stands for owl:Nothing
 abbrev pub an_a_is_a_d : Axiom

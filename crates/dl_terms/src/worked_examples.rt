@@ -1,13 +1,18 @@
 //! What the definitions give on small ontologies.
 ghost use Rattle.std.specs.Prelude.{◌≡◌, ℕ, List, [], ◌∷◌, length};
+ghost use Rattle.dl_terms.specs.Roles.{inverse_of};
+ghost use Rattle.dl_terms.specs.NormalForm.{axiom_rows, role_in, concept_in, never};
 ghost use Rattle.dl_terms.specs.Structure.{Element, IsElement, HoldsAt, individual};
 ghost use Rattle.dl_terms.specs.Answers.{IsCertain, AreCertain};
 ghost use Rattle.dl_terms.specs.Broken.{IsFirstBroken, NothingIsBroken};
 ghost use Rattle.dl_terms.specs.Order.{axiom_cmp};
 ghost use Rattle.dl_terms.specs.Sets.{IsSetOf};
-ghost use Rattle.dl_terms.specs.Examples.{class_a, class_c, class_d, property_p, name_a, name_b, name_c, a_is_an_a, a_has_a_p, a_p_has_an_s, a_p_has_a_p, p_is_a_turned_s, a_filler_in_c_and_d, c_and_d_are_disjoint, p_is_asymmetric, p_is_irreflexive, an_a_is_a_d, a_is_disjoint_from_itself, has_a_p, is_p, share_a_p, has_a_p_with_an_s, some_loop, seven_in_a_row, is_s};
-ghost use Rattle.dl_terms.specs.declared.role.Basic.TheVariants.{Class};
+ghost use Rattle.dl_terms.specs.Examples.{class_a, class_c, class_d, property_p, role_p, role_s, p_in_c, name_a, name_b, name_c, a_is_an_a, a_has_a_p, a_p_has_an_s, a_p_has_a_p, p_is_a_turned_s, a_filler_in_c_and_d, c_and_d_are_disjoint, p_is_asymmetric, p_is_irreflexive, an_a_is_a_d, a_is_disjoint_from_itself, has_a_p, is_p, share_a_p, has_a_p_with_an_s, some_loop, seven_in_a_row, is_s};
+ghost use Rattle.dl_terms.specs.declared.role.Basic.TheVariants.{Class, SomeOf};
+ghost use Rattle.dl_terms.specs.declared.role.Negative.TheVariants.{Basics, Roles, NoLoop};
+ghost use Rattle.dl_terms.specs.declared.axiom.Part.TheVariants as part;
 ghost use Rattle.dl_terms.specs.declared.axiom.Axiom.{Axiom};
+ghost use Rattle.dl_terms.specs.declared.axiom.Axiom.TheVariants.{SubClass, EquivalentClasses, DisjointClasses, SubRole, EquivalentRoles, DisjointRoles, InverseRoles, Domain, Range, Symmetric, Asymmetric, Irreflexive};
 ghost use Rattle.dl_terms.specs.declared.axiom.Fact.{Fact};
 ghost use Rattle.dl_terms.specs.declared.axiom.Fact.TheVariants as fact;
 
@@ -57,4 +62,38 @@ pub fn broken_examples()
 
     // A is disjoint from itself: operands are read by position.
     ensures by_position { IsFirstBroken (a_is_disjoint_from_itself ∷ []) (a_is_an_a ∷ []) None (Some a_is_disjoint_from_itself) }
+{}
+
+/// The rows of the normal form of an axiom of each kind, in order within the axiom.
+pub fn normal_form_examples()
+    ensures sub_class { axiom_rows (SubClass (Class class_a)
+        (part.Thing ∷ part.Class class_c ∷ part.Any role_s ∷ part.Fill role_p class_c ∷ part.Not (Class class_d) ∷ []))
+        ≡ concept_in (Class class_a) (Class class_c) ∷ concept_in (Class class_a) (SomeOf role_s)
+        ∷ concept_in (Class class_a) (SomeOf p_in_c) ∷ role_in p_in_c role_p ∷ concept_in (SomeOf (inverse_of p_in_c)) (Class class_c)
+        ∷ never (Basics (Class class_a) (Class class_d)) ∷ [] }
+    ensures equivalent_classes { axiom_rows (EquivalentClasses (Class class_a ∷ SomeOf role_p ∷ Class class_d ∷ []))
+        ≡ concept_in (Class class_a) (SomeOf role_p) ∷ concept_in (SomeOf role_p) (Class class_d) ∷ concept_in (Class class_d) (Class class_a) ∷ [] }
+    ensures disjoint_classes { axiom_rows (DisjointClasses (Class class_a ∷ SomeOf role_p ∷ Class class_d ∷ []))
+        ≡ never (Basics (Class class_a) (SomeOf role_p)) ∷ never (Basics (Class class_a) (Class class_d))
+        ∷ never (Basics (SomeOf role_p) (Class class_d)) ∷ [] }
+    ensures sub_role { axiom_rows (SubRole role_p (inverse_of role_s)) ≡ role_in role_p (inverse_of role_s) ∷ [] }
+    ensures equivalent_roles { axiom_rows (EquivalentRoles (role_p ∷ role_s ∷ inverse_of role_p ∷ []))
+        ≡ role_in role_p role_s ∷ role_in role_s (inverse_of role_p) ∷ role_in (inverse_of role_p) role_p ∷ [] }
+    ensures disjoint_roles { axiom_rows (DisjointRoles (role_p ∷ role_s ∷ inverse_of role_p ∷ []))
+        ≡ never (Roles role_p role_s) ∷ never (Roles role_p (inverse_of role_p)) ∷ never (Roles role_s (inverse_of role_p)) ∷ [] }
+    ensures inverse_roles { axiom_rows (InverseRoles role_p role_s)
+        ≡ role_in role_p (inverse_of role_s) ∷ role_in (inverse_of role_s) role_p ∷ [] }
+
+    // A domain is as a class axiom of "some r", and a range as one of "some inverse of r".
+    ensures domain { axiom_rows (Domain role_s (part.Class class_c ∷ part.Fill role_p class_c ∷ []))
+        ≡ concept_in (SomeOf role_s) (Class class_c)
+        ∷ concept_in (SomeOf role_s) (SomeOf p_in_c) ∷ role_in p_in_c role_p ∷ concept_in (SomeOf (inverse_of p_in_c)) (Class class_c) ∷ [] }
+    ensures range { axiom_rows (Range role_s (part.Any role_p ∷ part.Not (Class class_d) ∷ []))
+        ≡ concept_in (SomeOf (inverse_of role_s)) (SomeOf role_p) ∷ never (Basics (SomeOf (inverse_of role_s)) (Class class_d)) ∷ [] }
+    ensures symmetric { axiom_rows (Symmetric role_p) ≡ role_in role_p (inverse_of role_p) ∷ [] }
+    ensures asymmetric { axiom_rows (Asymmetric role_p) ≡ never (Roles role_p (inverse_of role_p)) ∷ [] }
+    ensures irreflexive { axiom_rows (Irreflexive role_p) ≡ never (NoLoop role_p) ∷ [] }
+
+    // The inverse of an inverse is the role itself.
+    ensures of_an_inverse { axiom_rows (Symmetric (inverse_of role_p)) ≡ role_in (inverse_of role_p) role_p ∷ [] }
 {}
