@@ -56,6 +56,18 @@ link p v w = atom.Link p (Var v) (Var w)
 abbrev pub a_is_an_a : Fact
 a_is_an_a = fact.Is class_a name_a
 
+-- ClassAssertion(A a), ClassAssertion(A c)
+abbrev pub a_and_c_are_as : List Fact
+a_and_c_are_as = fact.Is class_a name_a ∷ fact.Is class_a name_c ∷ []
+
+-- ObjectPropertyAssertion(P a b)
+abbrev pub p_from_a_to_b : Fact
+p_from_a_to_b = fact.Link property_p name_a name_b
+
+-- ObjectPropertyAssertion(P a a)
+abbrev pub p_from_a_to_a : Fact
+p_from_a_to_a = fact.Link property_p name_a name_a
+
 -- SubClassOf(A ObjectSomeValuesFrom(P owl:Thing))
 abbrev pub a_has_a_p : Axiom
 a_has_a_p = SubClass (basic.Class class_a) (part.Any role_p ∷ [])

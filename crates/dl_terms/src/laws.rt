@@ -14,19 +14,24 @@ ghost use Rattle.dl_terms.specs.declared.axiom.Axiom.{Axiom};
 ghost use Rattle.dl_terms.specs.declared.axiom.Fact.{Fact};
 ghost use Rattle.dl_terms.specs.declared.query.Query.{Query};
 
-/// Role below and concept below are reflexive and transitive, and "some r" is below "some s" where r is below s.
+/// Role below and concept below are reflexive and transitive.
+/// "Some r" is below "some s" where r is below s.
 pub fn below_is_a_preorder()
     ensures role_itself { (axioms : List Axiom) (r : Role) → RoleBelow axioms r r }
-    ensures role_chain { (axioms : List Axiom) (r s t : Role) → RoleBelow axioms r s → RoleBelow axioms s t → RoleBelow axioms r t }
+    ensures role_chain { (axioms : List Axiom) (r s t : Role) → RoleBelow axioms r s → RoleBelow axioms s t
+        → RoleBelow axioms r t }
     ensures concept_itself { (axioms : List Axiom) (b : Basic) → ConceptBelow axioms b b }
-    ensures concept_chain { (axioms : List Axiom) (b c d : Basic) → ConceptBelow axioms b c → ConceptBelow axioms c d → ConceptBelow axioms b d }
-    ensures some_of { (axioms : List Axiom) (r s : Role) → RoleBelow axioms r s → ConceptBelow axioms (SomeOf r) (SomeOf s) }
+    ensures concept_chain { (axioms : List Axiom) (b c d : Basic) → ConceptBelow axioms b c → ConceptBelow axioms c d
+        → ConceptBelow axioms b d }
+    ensures some_of { (axioms : List Axiom) (r s : Role) → RoleBelow axioms r s
+        → ConceptBelow axioms (SomeOf r) (SomeOf s) }
 {}
 
-/// "some r" holds at an element of the canonical structure exactly where r joins it to some element.
+/// "Some r" holds at an element of the canonical structure exactly where r joins it to an element.
 pub fn some_of_is_a_neighbour()
     ensures { (axioms : List Axiom) (facts : List Fact) (r : Role) (x : Element) → IsElement axioms facts x
-        → HoldsAt axioms facts (SomeOf r) x ↔ ((y : Element) × IsElement axioms facts y × Joins axioms facts r x y) }
+        → HoldsAt axioms facts (SomeOf r) x
+        ↔ ((y : Element) × IsElement axioms facts y × Joins axioms facts r x y) }
 {}
 
 /// A query has one list of certain answers, and at most one axiom is the first broken one.
