@@ -1,0 +1,18 @@
+use Rattle.dl_run.proofs.MemberLemmas.{nat_cmp-equal, AreCertain-members, found_in_facts}
+use Rattle.dl_run.proofs.BelowLemmas.{NothingIsBroken-of}
+use Rattle.dl_run.proofs.members.members.Goals as goal
+
+pub set_of-requires : goal.set_of-requires
+set_of-requires c = nat_cmp-equal
+
+pub returns-clause-certain : goal.returns-clause-certain
+returns-clause-certain c =
+    AreCertain-members c.args.inclusions.now c.args.facts.now c.args.class c.in_ok-below.below.items c.in_ok-found.found.items c.set_of.result.items
+    c.in_ok-below.ensures.exact (rw c.as_slice.ensures.value at c.in_ok-found.ensures) c.set_of.ensures
+
+pub returns-clause-unbroken : goal.returns-clause-unbroken
+returns-clause-unbroken c = NothingIsBroken-of c.args.inclusions.now _
+
+pub returns-clause-individuals : goal.returns-clause-individuals
+returns-clause-individuals c =
+    found_in_facts _ c.args.facts.now c.in_ok-found.found.items c.set_of.result.items c.in_ok-found.ensures c.set_of.ensures

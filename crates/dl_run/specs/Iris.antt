@@ -1,0 +1,30 @@
+-- The IRIs of names.
+use Rattle.std.specs.Prelude.{ℕ, Bool, not, ◌&&◌, nat_lt, ◌==◌, List, [], ◌∷◌, codes, IsTrue, IsUtf8, nat_eq}
+use Rattle.std.specs.List.{list_any, list_all, starts_with}
+
+-- the characters of an IRI but for those that are not ASCII: not U+0000 to U+0020, and none of < > " { } | ^ ` \
+abbrev pub is_iri_byte : ℕ → Bool
+is_iri_byte b = nat_lt 32 b && not (list_any (λ f. b == f) (60 ∷ 62 ∷ 34 ∷ 123 ∷ 125 ∷ 124 ∷ 94 ∷ 96 ∷ 92 ∷ []))
+
+-- the text of an IRI: characters in UTF-8, none of which is excluded; it may be empty
+pub record IsIri (text : List ℕ) : Type 0 where
+  pub utf8 : IsUtf8 text
+  pub characters : IsTrue (list_all is_iri_byte text)
+
+-- the namespaces of OWL, RDF, RDFS and XML Schema, whose names are reserved
+abbrev pub reserved_namespaces : List (List ℕ)
+reserved_namespaces =
+    codes "http://www.w3.org/2002/07/owl#" ∷ codes "http://www.w3.org/1999/02/22-rdf-syntax-ns#"
+    ∷ codes "http://www.w3.org/2000/01/rdf-schema#" ∷ codes "http://www.w3.org/2001/XMLSchema#" ∷ []
+
+abbrev pub is_reserved : List ℕ → Bool
+is_reserved text = list_any (λ namespace. starts_with nat_eq text namespace) reserved_namespaces
+
+-- the IRI of a name: not reserved
+pub record IsName (text : List ℕ) : Type 0 where
+  pub iri : IsIri text
+  pub free : IsTrue (not (is_reserved text))
+
+-- the class whose members no model has (OWL 2 Functional-Style Syntax)
+abbrev pub owl_nothing : List ℕ
+owl_nothing = codes "http://www.w3.org/2002/07/owl#Nothing"

@@ -1,0 +1,31 @@
+-- What is printed.
+use Rattle.std.specs.Prelude.{ℕ, List, [], ◌∷◌, ◌++◌, length, map, codes, slice_get, unwrap_or}
+use Rattle.std.specs.List.{flat_map}
+use Rattle.std.specs.Fmt.{decimal}
+use Rattle.dl_names.specs.NameList.{Text}
+
+-- the IRI of a name, in < and >
+abbrev pub iri_of : List Text → ℕ → List ℕ
+iri_of names n = 60 ∷ unwrap_or (slice_get names n) [] ++ 62 ∷ []
+
+-- texts with a comma and a space between them
+abbrev pub listed : List Text → List ℕ
+listed [] = []
+listed (text ∷ []) = text
+listed (text ∷ next ∷ texts) = text ++ (codes ", " ++ listed (next ∷ texts))
+
+-- a tuple of names on a line
+abbrev pub tuple_line : List Text → List ℕ → List ℕ
+tuple_line names tuple = 40 ∷ listed (map (iri_of names) tuple) ++ 41 ∷ 10 ∷ []
+
+-- how many facts there are, and how many triples were skipped
+abbrev pub facts_line : ℕ → ℕ → List ℕ
+facts_line facts skipped = codes "facts " ++ (decimal facts ++ (codes " skipped " ++ (decimal skipped ++ 10 ∷ [])))
+
+-- the answers: how many, and each on a line
+abbrev pub answers_text : List Text → List (List ℕ) → List ℕ
+answers_text names tuples = codes "answers " ++ (decimal (length tuples) ++ 10 ∷ flat_map (tuple_line names) tuples)
+
+-- that there are more answers than the limit
+abbrev pub more_than_text : ℕ → List ℕ
+more_than_text limit = codes "refused: more than " ++ (decimal limit ++ (codes " answers" ++ 10 ∷ []))

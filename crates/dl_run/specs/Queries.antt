@@ -1,0 +1,41 @@
+-- The queries that are read so far: one class atom, whose variable is the head.
+use Rattle.std.specs.Prelude.{◌≡◌, ◌≢◌, ℕ, Bool, ◌&&◌, ◌||◌, nat_le, ◌==◌, List, [], ◌∷◌, codes, IsTrue}
+use Rattle.std.specs.List.{list_all}
+use Rattle.dl_names.specs.NameList.{Text}
+use Rattle.dl_terms.specs.declared.query.Query.{Query}
+use Rattle.dl_run.specs.Members.{members_of}
+use Rattle.dl_run.specs.Tokens.{trimmed, WordThen, NameThen}
+
+-- ASCII letters, digits and '_'
+abbrev pub is_variable_byte : ℕ → Bool
+is_variable_byte b = nat_le 97 b && nat_le b 122 || nat_le 65 b && nat_le b 90 || nat_le 48 b && nat_le b 57 || b == 95
+
+pub record IsVariable (name : Text) : Type 0 where
+  pub some : name ≢ []
+  pub characters : IsTrue (list_all is_variable_byte name)
+
+-- q(?x) :- <A>(?x), with white space between the tokens
+pub record IsQuery (bytes : List ℕ) (names : List Text) (query : Query) (after : List Text) : Type 0 where
+  pub variable : Text
+  pub class : ℕ
+  pub opened : List ℕ
+  pub head : List ℕ
+  pub closed : List ℕ
+  pub turned : List ℕ
+  pub body : List ℕ
+  pub atom : List ℕ
+  pub term : List ℕ
+  pub last : List ℕ
+  pub rest : List ℕ
+  pub is_variable : IsVariable variable
+  pub keyword : WordThen (codes "q") bytes opened
+  pub head_open : WordThen (codes "(") opened head
+  pub head_variable : WordThen (63 ∷ variable) head closed
+  pub head_close : WordThen (codes ")") closed turned
+  pub turnstile : WordThen (codes ":-") turned body
+  pub predicate : NameThen body names class atom after
+  pub atom_open : WordThen (codes "(") atom term
+  pub atom_variable : WordThen (63 ∷ variable) term last
+  pub atom_close : WordThen (codes ")") last rest
+  pub end : trimmed rest ≡ []
+  pub is : query ≡ members_of class

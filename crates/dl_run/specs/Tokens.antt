@@ -1,0 +1,25 @@
+-- Tokens with white space between them, in ontologies and queries, and names in the order in which they are first met.
+use Rattle.std.specs.Prelude.{◌≡◌, ℕ, Bool, ◌||◌, ◌==◌, List, [], ◌∷◌, ◌++◌, if◌then◌else◌}
+use Rattle.dl_names.specs.NameList.{Text, added, place_of}
+use Rattle.dl_run.specs.Iris.{IsName}
+
+-- white space: space, tab, carriage return and line feed
+abbrev pub is_blank : ℕ → Bool
+is_blank b = b == 32 || b == 9 || b == 13 || b == 10
+
+-- what stands behind the white space at the front
+abbrev pub trimmed : List ℕ → List ℕ
+trimmed [] = []
+trimmed (b ∷ bytes) = if is_blank b then trimmed bytes else b ∷ bytes
+
+-- behind white space stands this word, and then the rest
+abbrev pub WordThen : List ℕ → List ℕ → List ℕ → Type 0
+WordThen word bytes rest = trimmed bytes ≡ word ++ rest
+
+-- behind white space stands a name in < and >, and then the rest. The name is at this place of the names, which it may be the last of
+pub record NameThen (bytes : List ℕ) (names : List Text) (place : ℕ) (rest : List ℕ) (after : List Text) : Type 0 where
+  pub text : Text
+  pub stands : trimmed bytes ≡ 60 ∷ text ++ 62 ∷ rest
+  pub name : IsName text
+  pub named : after ≡ added names text
+  pub at : place ≡ place_of after text

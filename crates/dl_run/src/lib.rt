@@ -1,0 +1,25 @@
+// The commands of the program: their words, what they read, what they answer and what they print.
+#![tactic(auto)]
+
+mod answer;
+mod chain;
+mod command;
+mod data;
+mod fault;
+mod input;
+mod limits;
+mod members;
+mod ontology;
+mod output;
+mod question;
+mod ranked;
+mod scan;
+mod sets;
+mod status;
+mod stop;
+mod texts;
+mod words;
+
+pub use command::{answer_command, quest, without_memory};
+pub use limits::DEFAULT_LIMIT;
+pub use status::Status;

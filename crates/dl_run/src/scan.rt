@@ -1,0 +1,140 @@
+// Reading tokens from the front of bytes: words, and names in < and >, with white space before them.
+ghost use Rattle.std.specs.Prelude.{◌≡◌, ◌≤◌, ◌<◌, ◌∷◌, ◌++◌, ℕ, List, [], length, IfOk, IfErr, OnOk, OnErr, IfSome, IfNone, IsTrue, not, position};
+ghost use Rattle.std.specs.List.{list_all};
+ghost use Rattle.dl_names.specs.NameList.{Text};
+ghost use Rattle.dl_names.specs.declared.set.TheConstants.{MAX_NAMES};
+ghost use Rattle.dl_run.specs.Iris.{is_iri_byte, is_reserved, IsName};
+ghost use Rattle.dl_run.specs.Tokens.{is_blank, trimmed, WordThen, NameThen};
+
+use crate::fault::Fault;
+use dl_names::NameSet;
+
+/// What stands behind the white space at the front.
+pub(crate) fn trimmed(bytes: &[u8]) -> &[u8]
+    ensures { result.now ≡ trimmed bytes.now }
+{
+    for (index, byte) in bytes.iter().enumerate() {
+        if !is_blank(*byte) {
+            return &bytes[index..];
+        }
+    }
+    &[]
+}
+
+/// What stands behind a word, before which white space may stand.
+pub(crate) fn after_word<'a>(bytes: &'a [u8], word: &[u8]) -> Option<&'a [u8]>
+    ensures found { IfSome result (λ rest. WordThen word.now bytes.now rest.now) }
+    ensures none { IfNone result ((rest : List ℕ) → WordThen word.now bytes.now rest → ⊥) }
+{
+    trimmed(bytes).strip_prefix(word)
+}
+
+/// The same, where the bytes aren't of their form unless the word stands there.
+pub(crate) fn word_then<'a>(bytes: &'a [u8], word: &[u8]) -> Result<&'a [u8], Fault>
+    ensures ok { IfOk result (λ rest. WordThen word.now bytes.now rest.now) }
+    ensures none { IfErr result (λ _. (rest : List ℕ) → WordThen word.now bytes.now rest → ⊥) }
+    ensures cause { IfErr result (λ fault. fault ≡ Fault.NotBuilt) }
+{
+    after_word(bytes, word).ok_or(Fault::NotBuilt)
+}
+
+/// That no more than white space stands there.
+pub(crate) fn nothing_then(bytes: &[u8]) -> Result<(), Fault>
+    ensures ok { OnOk result (trimmed bytes.now ≡ []) }
+    ensures none { OnErr result (trimmed bytes.now ≡ [] → ⊥) }
+    ensures cause { IfErr result (λ fault. fault ≡ Fault.NotBuilt) }
+{
+    if trimmed(bytes).is_empty() {
+        Ok(())
+    } else {
+        Err(Fault::NotBuilt)
+    }
+}
+
+/// The IRI of a name up to the `>` that closes it, and what stands behind that.
+pub(crate) fn iri_then(bytes: &[u8]) -> Option<(&str, &[u8])>
+    ensures found { IfSome result (λ found. (bytes.now ≡ found.0.now ++ 62 ∷ found.1.now) × IsName found.0.now) }
+    ensures none { IfNone result ((text rest : List ℕ) → bytes.now ≡ text ++ 62 ∷ rest → IsName text → ⊥) }
+{
+    let end = iri_end(bytes)?;
+    if bytes[end] != b'>' {
+        return None;
+    }
+    let name = name_of(&bytes[..end])?;
+    Some((name, &bytes[end + 1..]))
+}
+
+/// The next name, which stands in `<` and `>` and before which white space may stand, and what stands behind it.
+fn name_then(bytes: &[u8]) -> Option<(&str, &[u8])>
+    ensures found { IfSome result (λ found. (trimmed bytes.now ≡ 60 ∷ found.0.now ++ 62 ∷ found.1.now) × IsName found.0.now) }
+    ensures none { IfNone result ((text rest : List ℕ) → trimmed bytes.now ≡ 60 ∷ text ++ 62 ∷ rest → IsName text → ⊥) }
+{
+    iri_then(after_word(bytes, b"<")?)
+}
+
+/// The place of the next name, which is added to the names, and what stands behind it.
+pub(crate) fn place_of_next<'a>(
+    bytes: &'a [u8],
+    names: &mut NameSet,
+) -> Result<(u32, &'a [u8]), Fault>
+    ensures ok { IfOk result (λ found. NameThen bytes.now names.old found.0 found.1.now names.new) }
+    ensures within { IfOk result (λ found. found.0 < length names.new) }
+    ensures not_built { (result ≡ Err Fault.NotBuilt) →
+        (place : ℕ) (rest : List ℕ) (after : List Text) → NameThen bytes.now names.old place rest after → length after ≤ MAX_NAMES → ⊥ }
+{
+    let Some((text, rest)) = name_then(bytes) else {
+        return Err(Fault::NotBuilt);
+    };
+    let place = names.add(text)?;
+    Ok((place, rest))
+}
+
+/// Where the text of an IRI ends: the first byte that is none of its characters.
+fn iri_end(bytes: &[u8]) -> Option<usize>
+    ensures { result ≡ position (λ b. not (is_iri_byte b)) bytes.now }
+{
+    bytes.iter().position(|byte| !is_iri_byte(*byte))
+}
+
+/// The characters of an IRI as the text of a name.
+fn name_of(characters: &[u8]) -> Option<&str>
+    requires { IsTrue (list_all is_iri_byte characters.now) }
+    ensures found { IfSome result (λ name. (name.now ≡ characters.now) × IsName characters.now) }
+    ensures none { IfNone result (IsName characters.now → ⊥) }
+{
+    if is_reserved(characters) {
+        return None;
+    }
+    match std::str::from_utf8(characters) {
+        Ok(name) => Some(name),
+        Err(_) => None,
+    }
+}
+
+/// Whether an IRI is in a reserved namespace.
+fn is_reserved(iri: &[u8]) -> bool
+    ensures { result ≡ is_reserved iri.now }
+{
+    iri.starts_with(b"http://www.w3.org/2002/07/owl#")
+        || iri.starts_with(b"http://www.w3.org/1999/02/22-rdf-syntax-ns#")
+        || iri.starts_with(b"http://www.w3.org/2000/01/rdf-schema#")
+        || iri.starts_with(b"http://www.w3.org/2001/XMLSchema#")
+}
+
+/// Whether a byte is white space.
+fn is_blank(byte: u8) -> bool
+    ensures { result ≡ is_blank byte }
+{
+    byte == b' ' || byte == b'\t' || byte == b'\r' || byte == b'\n'
+}
+
+/// Whether a byte is a character of an IRI, or a part of one that isn't ASCII.
+fn is_iri_byte(byte: u8) -> bool
+    ensures { result ≡ is_iri_byte byte }
+{
+    byte > 32
+        && !matches!(
+            byte,
+            b'<' | b'>' | b'"' | b'{' | b'}' | b'|' | b'^' | b'`' | b'\\'
+        )
+}

@@ -1,0 +1,14 @@
+// The texts that the program prints in place of an output.
+
+/// The written forms of the words.
+pub const USAGE: &str =
+    "usage: quest answer ONTOLOGY DATA QUERY [--limit N]\n       quest run ONTOLOGY DATA STREAMS [--shards N]\n       quest gen NUMBER SIZE\n";
+
+/// The input is of a form that isn't read yet.
+pub const NOT_BUILT: &str = "refused: not built\n";
+
+/// A file could not be read.
+pub const READ_FAULT: &str = "read fault\n";
+
+/// There was no memory.
+pub const NO_MEMORY: &str = "no memory\n";

@@ -1,0 +1,50 @@
+// The written forms of the words.
+ghost use Rattle.std.specs.Prelude.{◌≡◌, ◌↔◌, codes, map, IsTrue, IfSome, IfNone, string_bytes};
+ghost use Rattle.dl_run.specs.Words.{HasForm, IsPositional};
+ghost use Rattle.dl_run.specs.Defined.{HasNoForm};
+ghost use Rattle.dl_run.specs.Forms.{form_view};
+
+use crate::limits::DEFAULT_LIMIT;
+
+/// The words of `answer`: the names of its files, and how many answers it prints at most.
+#[derive(Drop)]
+pub(crate) struct AnswerWords<'a> {
+    pub ontology: &'a str,
+    pub facts: &'a str,
+    pub query: &'a str,
+    pub limit: u64,
+}
+
+/// The form that the words have. It takes no memory.
+pub(crate) fn form_of(words: &[String]) -> Option<AnswerWords<'_>>
+    ensures some { IfSome result (λ form. HasForm (map string_bytes words.now) (form_view form)) }
+    ensures none { IfNone result (HasNoForm (map string_bytes words.now)) }
+{
+    let [command, ontology, facts, query] = words else {
+        return None;
+    };
+    let (ontology, facts, query) = (ontology.as_str(), facts.as_str(), query.as_str());
+    if !is_answer(command.as_str(), ontology, facts, query) {
+        return None;
+    }
+    Some(AnswerWords {
+        ontology,
+        facts,
+        query,
+        limit: DEFAULT_LIMIT,
+    })
+}
+
+/// Whether four words are those of `answer`.
+fn is_answer(command: &str, ontology: &str, facts: &str, query: &str) -> bool
+    ensures { IsTrue result ↔ ((command.now ≡ codes "answer") × IsPositional ontology.now × IsPositional facts.now × IsPositional query.now) }
+{
+    command == "answer" && is_positional(ontology) && is_positional(facts) && is_positional(query)
+}
+
+/// Whether a word is no option: it isn't empty and doesn't begin with `-`.
+fn is_positional(word: &str) -> bool
+    ensures { IsTrue result ↔ IsPositional word.now }
+{
+    !word.is_empty() && !word.starts_with('-')
+}
