@@ -1,0 +1,30 @@
+// The program `quest`: its words, the system's files and the standard output, handed to the commands.
+#![tactic(auto)]
+
+use dl_io::{FileLibrary, OutSink};
+use dl_run::{Status, quest, without_memory};
+use std::process::ExitCode;
+use std::{env, io};
+
+fn main(rt: HostRuntime) -> ExitCode {
+    let mut files = FileLibrary::new(&rt);
+    let mut sink = OutSink::new(&rt);
+    let status = match words(&rt) {
+        Ok(words) => quest(rt.alloc(), words.as_slice(), &mut files, &mut sink),
+        Err(error) => match error.kind() {
+            io::ErrorKind::OutOfMemory => without_memory(&mut sink),
+            // A word that is no text is in no written form.
+            _ => quest(rt.alloc(), &[], &mut files, &mut sink),
+        },
+    };
+    ExitCode::from(status.code())
+}
+
+/// The words after the program's name.
+fn words(rt: &HostRuntime) -> io::Result<Vec<String>> {
+    let mut words = Vec::new(rt.alloc());
+    for word in env::args(rt)?.skip(1) {
+        words.push(word)?;
+    }
+    Ok(words)
+}
