@@ -6,6 +6,9 @@ use dl_run::{Status, quest, without_memory};
 use std::process::ExitCode;
 use std::{env, io};
 
+#[cfg(test)]
+mod tests;
+
 fn main(rt: HostRuntime) -> ExitCode {
     let mut files = FileLibrary::new(&rt);
     let mut sink = OutSink::new(&rt);
