@@ -2,8 +2,6 @@
 use Rattle.std.specs.Prelude.{◌≡◌, ℕ, ◌≤◌, false, List, [], length, map, slice_index, Option, None}
 use Rattle.dl_names.specs.NameList.{Text, has_name}
 use Rattle.dl_names.specs.Frozen.{IsFrozen}
-use Rattle.dl_names.specs.declared.set.TheConstants.{MAX_NAMES}
-use Rattle.dl_io.specs.declared.whole.TheConstants.{MAX_BYTES}
 use Rattle.dl_terms.specs.Order.{axiom_cmp, fact_cmp}
 use Rattle.dl_terms.specs.Sets.{IsSetOf}
 use Rattle.dl_terms.specs.Renamed.{renamed_axiom, renamed_fact, renamed_query}
@@ -14,6 +12,13 @@ use Rattle.dl_run.specs.Iris.{owl_nothing}
 use Rattle.dl_run.specs.Ontology.{IsOntology}
 use Rattle.dl_run.specs.Data.{IsData}
 use Rattle.dl_run.specs.Queries.{IsQuery}
+
+-- the longest file, in bytes, and the most names of a run
+abbrev pub max_bytes : ℕ
+max_bytes = 268435456
+
+abbrev pub max_names : ℕ
+max_names = 4000000
 
 -- the names in byte order, the sets of axioms and facts over their numbers, the number of skipped triples, and that of owl:Nothing
 pub record Load : Type 0 where
@@ -36,10 +41,10 @@ pub record AreInput (ontology facts query : List ℕ) (load : Load) (asked : Que
   pub is_data : IsData facts met_first facts_read met_then
   pub is_query : IsQuery query met_then query_read met
   -- no file is too long, and the names fit
-  pub ontology_fits : length ontology ≤ MAX_BYTES
-  pub data_fits : length facts ≤ MAX_BYTES
-  pub query_fits : length query ≤ MAX_BYTES
-  pub names_fit : length met ≤ MAX_NAMES
+  pub ontology_fits : length ontology ≤ max_bytes
+  pub data_fits : length facts ≤ max_bytes
+  pub query_fits : length query ≤ max_bytes
+  pub names_fit : length met ≤ max_names
   -- the number of a name is its rank
   pub ranks : List ℕ
   pub is_frozen : IsFrozen met load.names ranks

@@ -115,6 +115,12 @@ const DATA_FILE_MISSING: &[(&str, &str)] = &[
     ("query.q", "q(?x) :- <B>(?x)"),
 ];
 
+/// The same beside an ontology of a form that isn't read: the files are read whole before any is tested.
+const DATA_MISSING_BESIDE_NOT_BUILT: &[(&str, &str)] = &[
+    ("ontology.ofn", "Ontology(DisjointClasses(<A> <B>))"),
+    ("query.q", "q(?x) :- <B>(?x)"),
+];
+
 /// The number of a call that doesn't come.
 const NEVER: u64 = u64::MAX;
 
@@ -261,13 +267,15 @@ fn with_faults(
 
 #[test]
 fn read_faults(rt: HostRuntime) -> Result<(), Fail> {
-    let (status, written) = with_faults(&rt, DATA_FILE_MISSING, NEVER, NEVER, ROOM)?;
-    assert_eq!(rt; status, Status::ReadFault, "a missing file");
-    assert_eq!(rt;
-        written.as_slice(),
-        "read fault\n".as_bytes(),
-        "a missing file"
-    );
+    for files in [DATA_FILE_MISSING, DATA_MISSING_BESIDE_NOT_BUILT] {
+        let (status, written) = with_faults(&rt, files, NEVER, NEVER, ROOM)?;
+        assert_eq!(rt; status, Status::ReadFault, "a missing file");
+        assert_eq!(rt;
+            written.as_slice(),
+            "read fault\n".as_bytes(),
+            "a missing file"
+        );
+    }
     for call in 0..NEVER {
         let (status, written) = with_faults(&rt, SUBCLASS.files, call, NEVER, ROOM)?;
         if status == Status::Done {
