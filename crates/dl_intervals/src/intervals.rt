@@ -25,7 +25,8 @@ impl Model for Intervals {
 
 /// Whether the numbers ascend strictly and each is below 2^31: the condition of `Intervals::of`.
 pub fn ascends(numbers: &[u32]) -> bool
-    ensures { IsTrue result ↔ (IsStrictlyIncreasing numbers.now × All (λ n. n < 2 ^ 31) numbers.now) }
+    ensures { IsTrue result ↔
+        (IsStrictlyIncreasing numbers.now × All (λ n. n < 2 ^ 31) numbers.now) }
 {
     for (i, number) in numbers.iter().enumerate() {
         if *number >= 1 << 31 {
@@ -83,7 +84,8 @@ impl Intervals {
 
     /// The intervals of the numbers of both. It fails only for want of memory.
     pub fn union(&self, alloc: Global, other: &Intervals) -> Result<Intervals, NoMemory>
-        ensures numbers { IfOk result (λ is. (n : ℕ) → Holds is n ↔ (Holds self.now n ⊎ Holds other.now n)) }
+        ensures numbers { IfOk result (λ is.
+            (n : ℕ) → Holds is n ↔ (Holds self.now n ⊎ Holds other.now n)) }
         ensures sorted { IfOk result IsIntervalList }
         ensures fewest { IfOk result IsFewest }
     {
@@ -95,7 +97,8 @@ impl Intervals {
 /// A law: two interval lists that hold the same numbers are the same list, and no list of intervals that holds the
 /// same numbers is shorter.
 pub fn interval_lists_are_unique_and_fewest()
-    ensures unique { (is js : List (ℕ × ℕ)) → IsIntervalList is → IsIntervalList js → HoldSame is js → is ≡ js }
+    ensures unique { (is js : List (ℕ × ℕ)) → IsIntervalList is → IsIntervalList js →
+        HoldSame is js → is ≡ js }
     ensures fewest { (is : List (ℕ × ℕ)) → IsIntervalList is → IsFewest is }
 {}
 
@@ -145,7 +148,8 @@ fn merge(
     requires left_small { EndBelow (2 ^ 31) left.now }
     requires right_sorted { IsIntervalList right.now }
     requires right_small { EndBelow (2 ^ 31) right.now }
-    ensures { IfOk result (λ is. Merges left.now (length left.now) right.now (length right.now) is.items) }
+    ensures { IfOk result (λ is.
+        Merges left.now (length left.now) right.now (length right.now) is.items) }
 {
     let mut items = Vec::new(alloc);
     let (mut i, mut j) = (0, 0);

@@ -28,8 +28,10 @@ pub trait Library {
     /// buffer that isn't empty the answer is 0 at the end of the file and nowhere else.
     fn read(&mut self, name: &str, from: u64, buf: &mut [u8]) -> Result<usize, Failed>
         ensures fits { IfOk result (λ n. n ≤ length buf.new) }
-        ensures copied { IfOk result (λ n. IfSome (told self.old) (λ file_of. Copies (file_of name.now) from n buf.new)) }
-        ensures end { IfOk result (λ n. IfSome (told self.old) (λ file_of. EndsAt (file_of name.now) from n buf.new)) }
+        ensures copied { IfOk result (λ n.
+            IfSome (told self.old) (λ file_of. Copies (file_of name.now) from n buf.new)) }
+        ensures end { IfOk result (λ n.
+            IfSome (told self.old) (λ file_of. EndsAt (file_of name.now) from n buf.new)) }
         ensures unchanged { told self.new ≡ told self.old }
         ensures count { faults self.old ≤ faults self.new }
         ensures failed { OnErr result (HasRisen (faults self.old) (faults self.new)) };
@@ -47,7 +49,8 @@ pub trait Sink {
     fn write(&mut self, piece: &[u8]) -> Result<usize, Failed>
         ensures fits { IfOk result (λ n. n ≤ length piece.now) }
         ensures some { IfOk result (λ n. 0 < length piece.now → 0 < n) }
-        ensures appended { IfOk result (λ n. Gets (got self.old) (got self.new) (take n piece.now)) }
+        ensures appended { IfOk result (λ n.
+            Gets (got self.old) (got self.new) (take n piece.now)) }
         ensures nothing { OnErr result (Gets (got self.old) (got self.new) []) }
         ensures count { faults self.old ≤ faults self.new }
         ensures failed { OnErr result (HasRisen (faults self.old) (faults self.new)) };

@@ -15,7 +15,8 @@ pub(crate) struct Failures {
 impl Model for Failures {
     ghost Value = { Schedule };
 
-    ghost view = { λ failures. record { fails = failures.fails.items; calls = failures.calls; faults = failures.faults } };
+    ghost view = { λ failures.
+        record { fails = failures.fails.items; calls = failures.calls; faults = failures.faults } };
 }
 
 impl Failures {

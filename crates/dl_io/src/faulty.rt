@@ -43,9 +43,12 @@ impl Library for MemoryLibrary {
     ghost faults = { λ library. library.schedule.faults };
 
     fn read(&mut self, name: &str, from: u64, buf: &mut [u8]) -> Result<usize, Failed>
-        ensures fails { IsErr result ↔ (FailsNext self.old.schedule ⊎ (file_at self.old.files name.now ≡ None)) }
-        ensures ok { IfOk result (λ n. n ≡ length (part_of (bytes_of self.old.files name.now) from (length buf.old))) }
-        ensures copied { OnOk result (buf.new ≡ with_front (part_of (bytes_of self.old.files name.now) from (length buf.old)) buf.old) }
+        ensures fails { IsErr result ↔
+            (FailsNext self.old.schedule ⊎ (file_at self.old.files name.now ≡ None)) }
+        ensures ok { IfOk result (λ n.
+            n ≡ length (part_of (bytes_of self.old.files name.now) from (length buf.old))) }
+        ensures copied { OnOk result (buf.new ≡
+            with_front (part_of (bytes_of self.old.files name.now) from (length buf.old)) buf.old) }
         ensures not_copied { OnErr result (buf.new ≡ buf.old) }
         ensures files { self.new.files ≡ self.old.files }
         ensures counted { self.new.schedule ≡ after_call (not (is_ok result)) self.old.schedule }
@@ -85,7 +88,8 @@ impl MemorySink {
     /// of `write` that are to fail, counted from 0.
     pub fn new(buffer: Vec<u8>, fails: Vec<u64>) -> MemorySink
         requires { buffer.items ≡ [] }
-        ensures buffer { result.buffer ≡ record { bytes = []; room = vec_capacity buffer; lost = false } }
+        ensures buffer {
+            result.buffer ≡ record { bytes = []; room = vec_capacity buffer; lost = false } }
         ensures schedule { result.schedule ≡ record { fails = fails.items; calls = 0; faults = 0 } }
     {
         MemorySink {

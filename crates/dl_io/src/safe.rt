@@ -45,8 +45,10 @@ impl Library for SafeLibrary {
     ghost faults = { λ _. 0 };
 
     fn read(&mut self, name: &str, from: u64, buf: &mut [u8]) -> Result<usize, Failed>
-        ensures ok { result ≡ Ok (length (part_of (bytes_of self.old name.now) from (length buf.old))) }
-        ensures copied { buf.new ≡ with_front (part_of (bytes_of self.old name.now) from (length buf.old)) buf.old }
+        ensures ok {
+            result ≡ Ok (length (part_of (bytes_of self.old name.now) from (length buf.old))) }
+        ensures copied { buf.new ≡
+            with_front (part_of (bytes_of self.old name.now) from (length buf.old)) buf.old }
         ensures unchanged { self.new ≡ self.old }
     {
         let file = self.file(name).unwrap_or(&[]);
@@ -77,9 +79,11 @@ pub struct SafeSink {
 impl Model for SafeSink {
     ghost Value = { Buffer };
 
-    ghost view = { λ sink. record { bytes = sink.buffer.items; room = sink.room; lost = sink.lost } };
+    ghost view = { λ sink.
+        record { bytes = sink.buffer.items; room = sink.room; lost = sink.lost } };
 
-    ghost invariant = { λ sink. (sink.room ≤ vec_capacity sink.buffer) × (length sink.buffer.items ≤ sink.room) };
+    ghost invariant = { λ sink.
+        (sink.room ≤ vec_capacity sink.buffer) × (length sink.buffer.items ≤ sink.room) };
 }
 
 impl SafeSink {

@@ -59,10 +59,13 @@ pub fn read_whole<L: Library>(
     files: &mut L,
     name: &str,
 ) -> Result<Vec<u8>, FileFault>
-    ensures whole { IfOk result (λ bytes. IfSome (L.told files.old) (λ file_of. bytes.items ≡ file_of name.now)) }
+    ensures whole { IfOk result (λ bytes.
+        IfSome (L.told files.old) (λ file_of. bytes.items ≡ file_of name.now)) }
     ensures not_too_long { IfOk result (λ bytes. vec_len bytes ≤ MAX_BYTES) }
-    ensures too_long { IsErrOf result FileFault.TooLong → IfSome (L.told files.old) (λ file_of. MAX_BYTES < length (file_of name.now)) }
-    ensures failed { IsErrOf result FileFault.Failed → HasRisen (L.faults files.old) (L.faults files.new) }
+    ensures too_long { IsErrOf result FileFault.TooLong →
+        IfSome (L.told files.old) (λ file_of. MAX_BYTES < length (file_of name.now)) }
+    ensures failed { IsErrOf result FileFault.Failed →
+        HasRisen (L.faults files.old) (L.faults files.new) }
     ensures unchanged { L.told files.new ≡ L.told files.old }
     ensures count { L.faults files.old ≤ L.faults files.new }
 {
@@ -91,10 +94,13 @@ fn read_piece<L: Library>(
     requires in_range { len ≤ MAX_BYTES }
     ensures front { take len buffer.new.items ≡ take len buffer.old.items }
     ensures fits { IfOk result (λ n. len + n ≤ vec_len buffer.new) }
-    ensures copied { IfOk result (λ n. IfSome (L.told files.old) (λ file_of. Copies (file_of name.now) len n (drop len buffer.new.items))) }
-    ensures end { IfOk result (λ n. IfSome (L.told files.old) (λ file_of. (n ≡ 0) ↔ (length (file_of name.now) ≤ len))) }
+    ensures copied { IfOk result (λ n. IfSome (L.told files.old) (λ file_of.
+        Copies (file_of name.now) len n (drop len buffer.new.items))) }
+    ensures end { IfOk result (λ n.
+        IfSome (L.told files.old) (λ file_of. (n ≡ 0) ↔ (length (file_of name.now) ≤ len))) }
     ensures not_too_long { IsErrOf result FileFault.TooLong → ⊥ }
-    ensures failed { IsErrOf result FileFault.Failed → HasRisen (L.faults files.old) (L.faults files.new) }
+    ensures failed { IsErrOf result FileFault.Failed →
+        HasRisen (L.faults files.old) (L.faults files.new) }
     ensures unchanged { L.told files.new ≡ L.told files.old }
     ensures count { L.faults files.old ≤ L.faults files.new }
 {

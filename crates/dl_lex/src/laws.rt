@@ -19,5 +19,6 @@ pub fn tokens_are_unique()
 /// A law: each keyword is spelled by its text, and by no other.
 pub fn keywords_are_unique()
     ensures spelled { (k : Keyword) → keyword_of (keyword_text k) ≡ Some k }
-    ensures alone { (text : List ℕ) (k : Keyword) → keyword_of text ≡ Some k → keyword_text k ≡ text }
+    ensures alone { (text : List ℕ) (k : Keyword) → keyword_of text ≡ Some k →
+        keyword_text k ≡ text }
 {}

@@ -41,7 +41,8 @@ impl<'a> Lexer<'a> {
         ensures fault { IfErr result (λ f. IsFaultAt self.old.bytes self.old.place f.at) }
 
         // After a token it stands at that token's end, and after a fault where it stood.
-        ensures moves { IfOk result (λ t. self.new ≡ record { bytes = self.old.bytes; place = t.end }) }
+        ensures moves { IfOk result (λ t.
+            self.new ≡ record { bytes = self.old.bytes; place = t.end }) }
         ensures stays { OnErr result (self.new ≡ self.old) }
 
         // Tokens are in order and do not overlap, stand within the bytes, and no token cuts a character.

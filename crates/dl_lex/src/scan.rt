@@ -112,7 +112,9 @@ fn text(bytes: &[u8], at: usize) -> Option<Token>
 /// The end of a string of which the opening `"` stands before a place, if it ends.
 fn text_end(bytes: &[u8], from: usize) -> Option<usize>
     requires { from ≤ length bytes.now }
-    ensures { MatchOption result ((j : ℕ) → ¬ IsRestOfText bytes.now from j) (IsRestOfText bytes.now from) }
+    ensures {
+        MatchOption result ((j : ℕ) → ¬ IsRestOfText bytes.now from j)
+        (IsRestOfText bytes.now from) }
 {
     let mut at = run_end(bytes, from, Class::Plain);
     while let Some(next) = after_escape(bytes, at) {

@@ -25,7 +25,9 @@ pub(crate) fn ranks_of(pairs: &Vec<(String, u32)>) -> Result<Vec<u32>, NoMemory>
     requires within { All (λ pair. pair.1 < vec_len pairs.now) pairs.now.items }
     requires distinct { AllPairs (λ one two. one.1 ≢ two.1) pairs.now.items }
     ensures len { IfOk result (λ ranks. vec_len ranks ≡ vec_len pairs.now) }
-    ensures ranked { IfOk result (λ ranks. (k : ℕ) (d : String Global × ℕ) → k < vec_len pairs.now → slice_index ranks.items (slice_index_or pairs.now.items k d).1 ≡ k) }
+    ensures ranked { IfOk result (λ ranks.
+        (k : ℕ) (d : String Global × ℕ) → k < vec_len pairs.now →
+        slice_index ranks.items (slice_index_or pairs.now.items k d).1 ≡ k) }
 {
     let mut ranks = vec![in *pairs.allocator(); 0u32; pairs.len()]?;
     for (rank, pair) in pairs.iter().enumerate() {

@@ -21,7 +21,8 @@ impl Model for Names {
 
     ghost view = { λ n. map string_bytes n.texts.items };
 
-    ghost invariant = { λ n. IsAscending (map string_bytes n.texts.items) × (length n.texts.items ≤ MAX_NAMES) };
+    ghost invariant = { λ n.
+        IsAscending (map string_bytes n.texts.items) × (length n.texts.items ≤ MAX_NAMES) };
 }
 
 impl Names {

@@ -27,7 +27,8 @@ impl Model for NameSet {
 
     ghost view = { λ s. map string_bytes s.texts.keys };
 
-    ghost invariant = { λ s. HasNoRepeats (map string_bytes s.texts.keys) × (length s.texts.keys ≤ MAX_NAMES) };
+    ghost invariant = { λ s.
+        HasNoRepeats (map string_bytes s.texts.keys) × (length s.texts.keys ≤ MAX_NAMES) };
 }
 
 impl NameSet {
@@ -49,7 +50,8 @@ impl NameSet {
         ensures within { IfOk result (λ place. place < length self.new) }
 
         ensures known { has_name self.old text.now ≡ true → IsOk result }
-        ensures full { (result ≡ Err NameFault.Full) ↔ ((length self.old ≡ MAX_NAMES) × (has_name self.old text.now ≡ false)) }
+        ensures full { (result ≡ Err NameFault.Full) ↔
+            ((length self.old ≡ MAX_NAMES) × (has_name self.old text.now ≡ false)) }
         ensures err { OnErr result (self.new ≡ self.old) }
 
         ensures distinct { HasNoRepeats self.new }

@@ -17,7 +17,8 @@ pub(crate) fn classes_below(
     requires named { class < names }
     requires named_all { All (λ e. (e.0 < names) × (e.1 < names)) inclusions.now }
     ensures all { IfOk result (λ below. length below.items ≡ names) }
-    ensures exact { IfOk result (λ below. (c : ℕ) → IsMarked below.items c ↔ LeadsTo inclusions.now c class) }
+    ensures exact { IfOk result (λ below.
+        (c : ℕ) → IsMarked below.items c ↔ LeadsTo inclusions.now c class) }
 {
     let edges = turned(alloc, inclusions)?;
     let mut below = unmarked(alloc, names as usize)?;
@@ -33,7 +34,8 @@ pub(crate) fn classes_below(
 /// The inclusions as edges from a class to one below it, ascending by where they begin.
 fn turned(alloc: Global, inclusions: &[(u32, u32)]) -> Result<Vec<(u32, u32)>, AllocError>
     ensures ascending { IfOk result (λ edges. IsNonDecreasingBy (λ e. e.0) edges.items) }
-    ensures same { IfOk result (λ edges. (sub sup : ℕ) → Contains edges.items (sup, sub) ↔ Contains inclusions.now (sub, sup)) }
+    ensures same { IfOk result (λ edges.
+        (sub sup : ℕ) → Contains edges.items (sup, sub) ↔ Contains inclusions.now (sub, sup)) }
 {
     let mut edges = swapped(alloc, inclusions)?;
     edges.sort_unstable_by_key(|e| e.0);
@@ -72,7 +74,8 @@ fn mark(
     waiting: &mut Vec<u32>,
 ) -> Result<(), AllocError>
     requires { All (λ e. e.1 < length below.old.items) edges.now }
-    ensures { OnOk result (Marks edges.now below.old.items waiting.old.items below.new.items waiting.new.items) }
+    ensures { OnOk result (Marks edges.now
+        below.old.items waiting.old.items below.new.items waiting.new.items) }
 {
     for edge in edges {
         let end = edge.1;

@@ -28,13 +28,17 @@ fn output_of<L: Library>(
     limit: u64,
 ) -> Result<Output, Stop>
     ensures prints { IfOk result (λ out. IfSome (L.told files.old) (λ file_of.
-        AnswerOf ontology.now facts.now query.now limit file_of out.status (string_bytes out.text))) }
+        AnswerOf ontology.now facts.now query.now limit file_of
+        out.status (string_bytes out.text))) }
     ensures only { IfOk result (λ out. IfSome (L.told files.old) (λ file_of.
-        (status : Status) (text : List ℕ) → AnswerOf ontology.now facts.now query.now limit file_of status text → out.status ≡ status)) }
+        (status : Status) (text : List ℕ) →
+        AnswerOf ontology.now facts.now query.now limit file_of status text →
+        out.status ≡ status)) }
     ensures kind { IfOk result (λ out. (out.status ≡ Status.Done) ⊎ (out.status ≡ Status.Refused)) }
     ensures not_built { result ≡ Err Stop.NotBuilt → IfSome (L.told files.old) (λ file_of.
         IsNoInput (file_of ontology.now) (file_of facts.now) (file_of query.now)) }
-    ensures read_fault { result ≡ Err Stop.ReadFault → HasRisen (L.faults files.old) (L.faults files.new) }
+    ensures read_fault { result ≡ Err Stop.ReadFault →
+        HasRisen (L.faults files.old) (L.faults files.new) }
     ensures unchanged { L.told files.new ≡ L.told files.old }
     ensures count { L.faults files.old ≤ L.faults files.new }
 {
@@ -90,21 +94,27 @@ pub fn answer_command<L: Library, S: Sink>(
 ) -> Status
     // Where the library tells its files, the sink got the defined output.
     ensures done { result ≡ Status.Done →
-        Wrote (L.told files.old) (AnswerOf ontology.now facts.now query.now limit) Status.Done (S.got sink.old) (S.got sink.new) }
+        Wrote (L.told files.old) (AnswerOf ontology.now facts.now query.now limit)
+        Status.Done (S.got sink.old) (S.got sink.new) }
     ensures refused { result ≡ Status.Refused →
-        Wrote (L.told files.old) (AnswerOf ontology.now facts.now query.now limit) Status.Refused (S.got sink.old) (S.got sink.new) }
+        Wrote (L.told files.old) (AnswerOf ontology.now facts.now query.now limit)
+        Status.Refused (S.got sink.old) (S.got sink.new) }
 
     // When each fault comes, and what the sink then got.
-    ensures read_fault { result ≡ Status.ReadFault → HasRisen (L.faults files.old) (L.faults files.new)
+    ensures read_fault { result ≡ Status.ReadFault →
+        HasRisen (L.faults files.old) (L.faults files.new)
         × Gets (S.got sink.old) (S.got sink.new) read_fault_text }
-    ensures no_memory { result ≡ Status.NoMemory → Gets (S.got sink.old) (S.got sink.new) no_memory_text }
-    ensures write_fault { result ≡ Status.WriteFault → HasRisen (S.faults sink.old) (S.faults sink.new) }
+    ensures no_memory { result ≡ Status.NoMemory →
+        Gets (S.got sink.old) (S.got sink.new) no_memory_text }
+    ensures write_fault { result ≡ Status.WriteFault →
+        HasRisen (S.faults sink.old) (S.faults sink.new) }
     ensures part { result ≡ Status.WriteFault →
         WrotePart (L.told files.old) (AnswerOf ontology.now facts.now query.now limit)
         (L.faults files.old) (L.faults files.new) (S.got sink.old) (S.got sink.new) }
     ensures usage { result ≡ Status.Usage → ⊥ }
 
-    ensures complete { IsComplete (L.told files.old) (AnswerOf ontology.now facts.now query.now limit)
+    ensures complete {
+        IsComplete (L.told files.old) (AnswerOf ontology.now facts.now query.now limit)
         (L.faults files.old) (L.faults files.new) (S.faults sink.old) (S.faults sink.new) result }
     ensures unchanged { L.told files.new ≡ L.told files.old }
     ensures reads { L.faults files.old ≤ L.faults files.new }
@@ -125,23 +135,30 @@ pub fn quest<L: Library, S: Sink>(
 ) -> Status
     // Where the library tells its files, the sink got the defined output.
     ensures done { result ≡ Status.Done →
-        Wrote (L.told files.old) (Prints (map string_bytes words.now)) Status.Done (S.got sink.old) (S.got sink.new) }
+        Wrote (L.told files.old) (Prints (map string_bytes words.now))
+        Status.Done (S.got sink.old) (S.got sink.new) }
     ensures refused { result ≡ Status.Refused →
-        Wrote (L.told files.old) (Prints (map string_bytes words.now)) Status.Refused (S.got sink.old) (S.got sink.new) }
+        Wrote (L.told files.old) (Prints (map string_bytes words.now))
+        Status.Refused (S.got sink.old) (S.got sink.new) }
 
     // Words without a written form.
     ensures usage { result ≡ Status.Usage →
         HasNoForm (map string_bytes words.now) × Gets (S.got sink.old) (S.got sink.new) usage_text }
     ensures no_form { HasNoForm (map string_bytes words.now) →
-        (result ≡ Status.Usage) ⊎ ((result ≡ Status.WriteFault) × GetsPrefix (S.got sink.old) (S.got sink.new) usage_text) }
+        (result ≡ Status.Usage) ⊎
+        ((result ≡ Status.WriteFault) × GetsPrefix (S.got sink.old) (S.got sink.new) usage_text) }
 
     // When each fault comes, and what the sink then got.
-    ensures read_fault { result ≡ Status.ReadFault → HasRisen (L.faults files.old) (L.faults files.new)
+    ensures read_fault { result ≡ Status.ReadFault →
+        HasRisen (L.faults files.old) (L.faults files.new)
         × Gets (S.got sink.old) (S.got sink.new) read_fault_text }
     ensures no_memory { result ≡ Status.NoMemory →
-        ((form : forms.Form) × HasForm (map string_bytes words.now) form) × Gets (S.got sink.old) (S.got sink.new) no_memory_text }
-    ensures write_fault { result ≡ Status.WriteFault → HasRisen (S.faults sink.old) (S.faults sink.new) }
-    ensures part { result ≡ Status.WriteFault → ((form : forms.Form) × HasForm (map string_bytes words.now) form) →
+        ((form : forms.Form) × HasForm (map string_bytes words.now) form) ×
+        Gets (S.got sink.old) (S.got sink.new) no_memory_text }
+    ensures write_fault { result ≡ Status.WriteFault →
+        HasRisen (S.faults sink.old) (S.faults sink.new) }
+    ensures part { result ≡ Status.WriteFault →
+        ((form : forms.Form) × HasForm (map string_bytes words.now) form) →
         WrotePart (L.told files.old) (Prints (map string_bytes words.now))
         (L.faults files.old) (L.faults files.new) (S.got sink.old) (S.got sink.new) }
 
@@ -169,7 +186,8 @@ pub fn quest<L: Library, S: Sink>(
 pub fn without_memory<S: Sink>(sink: &mut S) -> Status
     ensures no_memory { result ≢ Status.WriteFault →
         (result ≡ Status.NoMemory) × Gets (S.got sink.old) (S.got sink.new) no_memory_text }
-    ensures write_fault { result ≡ Status.WriteFault → HasRisen (S.faults sink.old) (S.faults sink.new)
+    ensures write_fault { result ≡ Status.WriteFault →
+        HasRisen (S.faults sink.old) (S.faults sink.new)
         × GetsPrefix (S.got sink.old) (S.got sink.new) no_memory_text }
 {
     written(sink, Status::NoMemory, NO_MEMORY)

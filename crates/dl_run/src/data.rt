@@ -27,12 +27,16 @@ pub(crate) fn read_data(
     bytes: &[u8],
     names: &mut NameSet,
 ) -> Result<Vec<(u32, u32)>, Fault>
-    ensures ok { IfOk result (λ v. IsData bytes.now names.old (map (λ p. Is p.0 p.1) v.items) names.new) }
+    ensures ok { IfOk result (λ v.
+        IsData bytes.now names.old (map (λ p. Is p.0 p.1) v.items) names.new) }
     ensures only { IfOk result (λ v.
-        (x : List Fact) (after : List Text) → IsData bytes.now names.old x after → (x ≡ map (λ p. Is p.0 p.1) v.items) × (after ≡ names.new)) }
+        (x : List Fact) (after : List Text) → IsData bytes.now names.old x after →
+        (x ≡ map (λ p. Is p.0 p.1) v.items) × (after ≡ names.new)) }
     ensures not_built { (result ≡ Err Fault.NotBuilt) →
-        (x : List Fact) (after : List Text) → IsData bytes.now names.old x after → length after ≤ MAX_NAMES → ⊥ }
-    ensures places { IfOk result (λ v. All (λ p. (p.0 < length names.new) × (p.1 < length names.new)) v.items) }
+        (x : List Fact) (after : List Text) → IsData bytes.now names.old x after →
+        length after ≤ MAX_NAMES → ⊥ }
+    ensures places { IfOk result (λ v.
+        All (λ p. (p.0 < length names.new) × (p.1 < length names.new)) v.items) }
 {
     let mut places = Vec::new(alloc);
     let mut rest = bytes;
@@ -48,9 +52,11 @@ fn read_line<'a>(
     names: &mut NameSet,
     places: &mut Vec<(u32, u32)>,
 ) -> Result<&'a [u8], Fault>
-    ensures ok { IfOk result (λ rest. Reads bytes.now rest.now names.old names.new places.old.items places.new.items) }
+    ensures ok { IfOk result (λ rest.
+        Reads bytes.now rest.now names.old names.new places.old.items places.new.items) }
     ensures not_built { (result ≡ Err Fault.NotBuilt) →
-        (who class : Text) (rest : List ℕ) → LineThen bytes.now who class rest → length (added (added names.old who) class) ≤ MAX_NAMES → ⊥ }
+        (who class : Text) (rest : List ℕ) → LineThen bytes.now who class rest →
+        length (added (added names.old who) class) ≤ MAX_NAMES → ⊥ }
     ensures shorter { IfOk result (λ rest. length rest.now < length bytes.now) }
 {
     let Some((who, class, rest)) = line_then(bytes) else {
@@ -65,7 +71,8 @@ fn read_line<'a>(
 /// The individual and the class of the line at the front, and what stands behind the line.
 fn line_then(bytes: &[u8]) -> Option<(&str, &str, &[u8])>
     ensures found { IfSome result (λ line. LineThen bytes.now line.0.now line.1.now line.2.now) }
-    ensures none { IfNone result ((who class : Text) (rest : List ℕ) → LineThen bytes.now who class rest → ⊥) }
+    ensures none { IfNone result ((who class : Text) (rest : List ℕ) →
+        LineThen bytes.now who class rest → ⊥) }
 {
     let rest = after(bytes, b"<")?;
     let (who, rest) = iri_then(rest)?;

@@ -21,9 +21,12 @@ pub(crate) fn members(
     requires named { class < names }
     requires named_all { All (λ e. (e.0 < names) × (e.1 < names)) inclusions.now }
     ensures certain { IfOk result (λ found.
-        AreCertain (inclusions_of inclusions.now) (class_facts_of facts.now) (members_of class) (singles found.items)) }
-    ensures individuals { IfOk result (λ found. All (λ a. (c : ℕ) × Contains facts.now (c, a)) found.items) }
-    ensures unbroken { OnOk result (NothingIsBroken (inclusions_of inclusions.now) (class_facts_of facts.now) None) }
+        AreCertain (inclusions_of inclusions.now) (class_facts_of facts.now)
+        (members_of class) (singles found.items)) }
+    ensures individuals { IfOk result (λ found.
+        All (λ a. (c : ℕ) × Contains facts.now (c, a)) found.items) }
+    ensures unbroken { OnOk result
+        (NothingIsBroken (inclusions_of inclusions.now) (class_facts_of facts.now) None) }
 {
     let below = classes_below(alloc, inclusions, class, names)?;
     let found = individuals_in(alloc, facts, below.as_slice())?;

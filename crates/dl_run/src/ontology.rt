@@ -19,13 +19,17 @@ pub(crate) fn read_ontology(
     bytes: &[u8],
     names: &mut NameSet,
 ) -> Result<Vec<(u32, u32)>, Fault>
-    ensures ok { IfOk result (λ v. IsOntology bytes.now names.old (map (λ p. inclusion p.0 p.1) v.items) names.new) }
+    ensures ok { IfOk result (λ v.
+        IsOntology bytes.now names.old (map (λ p. inclusion p.0 p.1) v.items) names.new) }
     ensures only { IfOk result (λ v.
-        (x : List Axiom) (after : List Text) → IsOntology bytes.now names.old x after → (x ≡ map (λ p. inclusion p.0 p.1) v.items) × (after ≡ names.new)) }
+        (x : List Axiom) (after : List Text) → IsOntology bytes.now names.old x after →
+        (x ≡ map (λ p. inclusion p.0 p.1) v.items) × (after ≡ names.new)) }
     ensures not_built { (result ≡ Err Fault.NotBuilt) →
-        (x : List Axiom) (after : List Text) → IsOntology bytes.now names.old x after → length after ≤ MAX_NAMES → ⊥ }
+        (x : List Axiom) (after : List Text) → IsOntology bytes.now names.old x after →
+        length after ≤ MAX_NAMES → ⊥ }
 
-    ensures places { IfOk result (λ v. All (λ p. (p.0 < length names.new) × (p.1 < length names.new)) v.items) }
+    ensures places { IfOk result (λ v.
+        All (λ p. (p.0 < length names.new) × (p.1 < length names.new)) v.items) }
 {
     let opened = word_then(bytes, b"Ontology")?;
     let body = word_then(opened, b"(")?;
@@ -41,10 +45,14 @@ fn inclusions_then<'a>(
     bytes: &'a [u8],
     names: &mut NameSet,
 ) -> Result<(Vec<(u32, u32)>, &'a [u8]), Fault>
-    ensures ok { IfOk result (λ found. AxiomsThen bytes.now names.old (map (λ p. inclusion p.0 p.1) found.0.items) found.1.now names.new) }
+    ensures ok { IfOk result (λ found.
+        AxiomsThen bytes.now names.old (map (λ p. inclusion p.0 p.1) found.0.items)
+        found.1.now names.new) }
     ensures all { IfOk result (λ found. NoAxiomNext found.1.now) }
     ensures not_built { (result ≡ Err Fault.NotBuilt) →
-        (axioms : List Axiom) (rest : List ℕ) (after : List Text) → AxiomsThen bytes.now names.old axioms rest after → NoAxiomNext rest → length after ≤ MAX_NAMES → ⊥ }
+        (axioms : List Axiom) (rest : List ℕ) (after : List Text) →
+        AxiomsThen bytes.now names.old axioms rest after → NoAxiomNext rest →
+        length after ≤ MAX_NAMES → ⊥ }
 {
     let mut inclusions = Vec::new(alloc);
     let mut rest = bytes;
@@ -58,9 +66,11 @@ fn inclusions_then<'a>(
 
 /// The two classes of an inclusion in their parentheses, and what stands behind them.
 fn classes_then<'a>(bytes: &'a [u8], names: &mut NameSet) -> Result<((u32, u32), &'a [u8]), Fault>
-    ensures ok { IfOk result (λ found. ClassesThen bytes.now names.old found.0.0 found.0.1 found.1.now names.new) }
+    ensures ok { IfOk result (λ found.
+        ClassesThen bytes.now names.old found.0.0 found.0.1 found.1.now names.new) }
     ensures not_built { (result ≡ Err Fault.NotBuilt) →
-        (sub sup : ℕ) (rest : List ℕ) (after : List Text) → ClassesThen bytes.now names.old sub sup rest after → length after ≤ MAX_NAMES → ⊥ }
+        (sub sup : ℕ) (rest : List ℕ) (after : List Text) →
+        ClassesThen bytes.now names.old sub sup rest after → length after ≤ MAX_NAMES → ⊥ }
 {
     let subject = word_then(bytes, b"(")?;
     let (sub, object) = place_of_next(subject, names)?;

@@ -17,7 +17,8 @@ pub(crate) fn answers_output(
     answers: &[u32],
 ) -> Result<String, AllocError>
     requires { All (λ n. n < length names.now) answers.now }
-    ensures { IfOk result (λ text. string_bytes text ≡ facts_line facts skipped ++ answers_text names.now (singles answers.now)) }
+    ensures { IfOk result (λ text. string_bytes text ≡
+        facts_line facts skipped ++ answers_text names.now (singles answers.now)) }
 {
     let mut out = String::new(alloc);
     push_number(&mut out, "facts ", facts as u64)?;
@@ -40,7 +41,8 @@ pub(crate) fn more_than_output(alloc: Global, limit: u64) -> Result<String, Allo
 
 /// Appends a text and a number.
 fn push_number(out: &mut String, before: &str, number: u64) -> Result<(), AllocError>
-    ensures { OnOk result (string_bytes out.new ≡ string_bytes out.old ++ (before.now ++ decimal number)) }
+    ensures { OnOk result (string_bytes out.new ≡
+        string_bytes out.old ++ (before.now ++ decimal number)) }
 {
     let alloc = *out.allocator();
     out.push_str(before)?;
@@ -51,7 +53,8 @@ fn push_number(out: &mut String, before: &str, number: u64) -> Result<(), AllocE
 /// Appends a line for each answer.
 fn push_answers(out: &mut String, names: &Names, answers: &[u32]) -> Result<(), AllocError>
     requires { All (λ n. n < length names.now) answers.now }
-    ensures { OnOk result (string_bytes out.new ≡ string_bytes out.old ++ flat_map (tuple_line names.now) (singles answers.now)) }
+    ensures { OnOk result (string_bytes out.new ≡
+        string_bytes out.old ++ flat_map (tuple_line names.now) (singles answers.now)) }
 {
     for name in answers {
         push_answer(out, names, *name)?;
@@ -62,7 +65,8 @@ fn push_answers(out: &mut String, names: &Names, answers: &[u32]) -> Result<(), 
 /// Appends the line of one answer.
 fn push_answer(out: &mut String, names: &Names, name: u32) -> Result<(), AllocError>
     requires { name < length names.now }
-    ensures { OnOk result (string_bytes out.new ≡ string_bytes out.old ++ tuple_line names.now (name ∷ [])) }
+    ensures { OnOk result (string_bytes out.new ≡
+        string_bytes out.old ++ tuple_line names.now (name ∷ [])) }
 {
     out.push_str("(<")?;
     out.push_str(names.text(name))?;

@@ -17,9 +17,11 @@ use dl_names::NameSet;
 pub(crate) fn read_query(bytes: &[u8], names: &mut NameSet) -> Result<u32, Fault>
     ensures ok { IfOk result (λ v. IsQuery bytes.now names.old (members_of v) names.new) }
     ensures only { IfOk result (λ v.
-        (x : Query) (after : List Text) → IsQuery bytes.now names.old x after → (x ≡ members_of v) × (after ≡ names.new)) }
+        (x : Query) (after : List Text) → IsQuery bytes.now names.old x after →
+        (x ≡ members_of v) × (after ≡ names.new)) }
     ensures not_built { (result ≡ Err Fault.NotBuilt) →
-        (x : Query) (after : List Text) → IsQuery bytes.now names.old x after → length after ≤ MAX_NAMES → ⊥ }
+        (x : Query) (after : List Text) → IsQuery bytes.now names.old x after →
+        length after ≤ MAX_NAMES → ⊥ }
 
     ensures places { IfOk result (λ v. v < length names.new) }
 {
@@ -39,7 +41,8 @@ pub(crate) fn read_query(bytes: &[u8], names: &mut NameSet) -> Result<u32, Fault
 /// The variable that stands next, with its `?` and its whole name, and what stands behind it.
 fn variable_then(bytes: &[u8]) -> Result<(&[u8], &[u8]), Fault>
     ensures ok { IfOk result (λ found. VariableThen bytes.now found.0.now found.1.now) }
-    ensures none { IfErr result (λ _. (name rest : List ℕ) → IsVariable name → WordThen (63 ∷ name) bytes.now rest → ⊥) }
+    ensures none { IfErr result (λ _.
+        (name rest : List ℕ) → IsVariable name → WordThen (63 ∷ name) bytes.now rest → ⊥) }
     ensures cause { IfErr result (λ fault. fault ≡ Fault.NotBuilt) }
 {
     let start = trimmed(bytes);

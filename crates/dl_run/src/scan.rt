@@ -53,8 +53,10 @@ pub(crate) fn nothing_then(bytes: &[u8]) -> Result<(), Fault>
 
 /// The IRI of a name up to the `>` that closes it, and what stands behind that.
 pub(crate) fn iri_then(bytes: &[u8]) -> Option<(&str, &[u8])>
-    ensures found { IfSome result (λ found. (bytes.now ≡ found.0.now ++ 62 ∷ found.1.now) × IsName found.0.now) }
-    ensures none { IfNone result ((text rest : List ℕ) → bytes.now ≡ text ++ 62 ∷ rest → IsName text → ⊥) }
+    ensures found { IfSome result (λ found.
+        (bytes.now ≡ found.0.now ++ 62 ∷ found.1.now) × IsName found.0.now) }
+    ensures none { IfNone result ((text rest : List ℕ) →
+        bytes.now ≡ text ++ 62 ∷ rest → IsName text → ⊥) }
 {
     let end = iri_end(bytes)?;
     if bytes[end] != b'>' {
@@ -66,8 +68,10 @@ pub(crate) fn iri_then(bytes: &[u8]) -> Option<(&str, &[u8])>
 
 /// The next name, which stands in `<` and `>` and before which white space may stand, and what stands behind it.
 fn name_then(bytes: &[u8]) -> Option<(&str, &[u8])>
-    ensures found { IfSome result (λ found. (trimmed bytes.now ≡ 60 ∷ found.0.now ++ 62 ∷ found.1.now) × IsName found.0.now) }
-    ensures none { IfNone result ((text rest : List ℕ) → trimmed bytes.now ≡ 60 ∷ text ++ 62 ∷ rest → IsName text → ⊥) }
+    ensures found { IfSome result (λ found.
+        (trimmed bytes.now ≡ 60 ∷ found.0.now ++ 62 ∷ found.1.now) × IsName found.0.now) }
+    ensures none { IfNone result ((text rest : List ℕ) →
+        trimmed bytes.now ≡ 60 ∷ text ++ 62 ∷ rest → IsName text → ⊥) }
 {
     iri_then(after_word(bytes, b"<")?)
 }
@@ -80,7 +84,8 @@ pub(crate) fn place_of_next<'a>(
     ensures ok { IfOk result (λ found. NameThen bytes.now names.old found.0 found.1.now names.new) }
     ensures within { IfOk result (λ found. found.0 < length names.new) }
     ensures not_built { (result ≡ Err Fault.NotBuilt) →
-        (place : ℕ) (rest : List ℕ) (after : List Text) → NameThen bytes.now names.old place rest after → length after ≤ MAX_NAMES → ⊥ }
+        (place : ℕ) (rest : List ℕ) (after : List Text) →
+        NameThen bytes.now names.old place rest after → length after ≤ MAX_NAMES → ⊥ }
 {
     let Some((text, rest)) = name_then(bytes) else {
         return Err(Fault::NotBuilt);

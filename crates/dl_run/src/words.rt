@@ -37,7 +37,8 @@ pub(crate) fn form_of(words: &[String]) -> Option<AnswerWords<'_>>
 
 /// Whether four words are those of `answer`.
 fn is_answer(command: &str, ontology: &str, facts: &str, query: &str) -> bool
-    ensures { IsTrue result ↔ ((command.now ≡ codes "answer") × IsPositional ontology.now × IsPositional facts.now × IsPositional query.now) }
+    ensures { IsTrue result ↔ ((command.now ≡ codes "answer")
+        × IsPositional ontology.now × IsPositional facts.now × IsPositional query.now) }
 {
     command == "answer" && is_positional(ontology) && is_positional(facts) && is_positional(query)
 }

@@ -18,19 +18,19 @@ ghost use Rattle.dl_terms.specs.declared.query.Query.{Query};
 /// "Some r" is below "some s" where r is below s.
 pub fn below_is_a_preorder()
     ensures role_itself { (axioms : List Axiom) (r : Role) → RoleBelow axioms r r }
-    ensures role_chain { (axioms : List Axiom) (r s t : Role) → RoleBelow axioms r s → RoleBelow axioms s t
-        → RoleBelow axioms r t }
+    ensures role_chain { (axioms : List Axiom) (r s t : Role) → RoleBelow axioms r s
+        → RoleBelow axioms s t → RoleBelow axioms r t }
     ensures concept_itself { (axioms : List Axiom) (b : Basic) → ConceptBelow axioms b b }
-    ensures concept_chain { (axioms : List Axiom) (b c d : Basic) → ConceptBelow axioms b c → ConceptBelow axioms c d
-        → ConceptBelow axioms b d }
+    ensures concept_chain { (axioms : List Axiom) (b c d : Basic) → ConceptBelow axioms b c
+        → ConceptBelow axioms c d → ConceptBelow axioms b d }
     ensures some_of { (axioms : List Axiom) (r s : Role) → RoleBelow axioms r s
         → ConceptBelow axioms (SomeOf r) (SomeOf s) }
 {}
 
 /// "Some r" holds at an element of the canonical structure exactly where r joins it to an element.
 pub fn some_of_is_a_neighbour()
-    ensures { (axioms : List Axiom) (facts : List Fact) (r : Role) (x : Element) → IsElement axioms facts x
-        → HoldsAt axioms facts (SomeOf r) x
+    ensures { (axioms : List Axiom) (facts : List Fact) (r : Role) (x : Element)
+        → IsElement axioms facts x → HoldsAt axioms facts (SomeOf r) x
         ↔ ((y : Element) × IsElement axioms facts y × Joins axioms facts r x y) }
 {}
 
@@ -38,6 +38,7 @@ pub fn some_of_is_a_neighbour()
 pub fn answers_are_determined()
     ensures certain { (axioms : List Axiom) (facts : List Fact) (q : Query) (xs ys : List (List ℕ))
         → AreCertain axioms facts q xs → AreCertain axioms facts q ys → xs ≡ ys }
-    ensures broken { (axioms : List Axiom) (facts : List Fact) (nothing : Option ℕ) (a b : Option Axiom)
+    ensures broken {
+        (axioms : List Axiom) (facts : List Fact) (nothing : Option ℕ) (a b : Option Axiom)
         → IsFirstBroken axioms facts nothing a → IsFirstBroken axioms facts nothing b → a ≡ b }
 {}

@@ -14,7 +14,7 @@ pub enum Atom {
     Link { role: u32, from: Term, to: Term },
 }
 
-/// A conjunctive query. Its variables are the numbers below `vars`; those that are not in the head are existential.
+/// A conjunctive query. Its variables are the numbers below `vars`; those of the atoms that are not in the head are existential.
 #[derive(Drop, Debug, PartialEq, Eq)]
 pub struct Query {
     pub head: List<u8>,
