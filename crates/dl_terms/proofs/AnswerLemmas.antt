@@ -1,16 +1,19 @@
--- The certain answers and the first broken axiom are determined.
-use Rattle.std.proofs.Common.{◌≡◌, ℕ, suc, List, [], ◌∷◌, ◌++◌, sym, ap, subst, ◌∙◌, arith}
-use Rattle.std.specs.List.{All}
+-- The certain answers, the first broken axiom and the defined reply are determined.
+use Rattle.std.proofs.Common.{◌≡◌, ℕ, suc, List, [], ◌∷◌, ◌++◌, length, refl, sym, ap, subst, ◌∙◌, arith}
+use Rattle.std.specs.List.{All, Contains}
 use Rattle.std.specs.declared.option.Option.{Option}
 use Rattle.std.specs.declared.cmp.Ordering.{Ordering}
 use Rattle.dl_terms.specs.Answers.{AreCertain}
-use Rattle.dl_terms.specs.Broken.{IsMet, IsFirstBroken}
+use Rattle.dl_terms.specs.Broken.{IsMet, IsFirstBroken, NothingIsBroken}
+use Rattle.dl_terms.specs.NormalForm.{negatives}
+use Rattle.dl_terms.specs.Reply.{Reply, inconsistent, found, IsReply}
+use Rattle.dl_terms.specs.Reply.IsReply.{is_inconsistent, is_too_many, is_found}
 use Rattle.dl_terms.specs.Sets.{IsSetOf}
 use Rattle.dl_terms.specs.declared.axiom.Axiom.{Axiom}
 use Rattle.dl_terms.specs.declared.axiom.Fact.{Fact}
 use Rattle.dl_terms.specs.declared.query.Query.{Query}
 use Rattle.dl_terms.proofs.OrderLemmas.{IsLinear, lists_linear, numbers_linear}
-use Rattle.dl_terms.proofs.MemberLemmas.{sorted_unique, All-Contains, Contains-first}
+use Rattle.dl_terms.proofs.MemberLemmas.{sorted_unique, All-Contains, Contains-first, Contains-middle}
 
 -- two lists that are both the certain answers of a query are the same list
 pub AreCertain-unique : (axioms : List Axiom) (facts : List Fact) (q : Query) (xs ys : List (List ℕ)) → AreCertain axioms facts q xs
@@ -55,3 +58,31 @@ IsFirstBroken-unique axioms facts nothing a b one other =
     ap (λ p. p.0)
     (first_unique (λ n. IsMet axioms facts n.1) one.before one.after other.before other.after (a, one.negative) (b, other.negative)
     (sym one.is_there ∙ other.is_there) one.first one.met other.first other.met)
+
+-- where an axiom is the first broken one, something is broken
+IsFirstBroken-broken : (axioms : List Axiom) (facts : List Fact) (nothing : Option ℕ) (broken : Option Axiom)
+    → IsFirstBroken axioms facts nothing broken → NothingIsBroken axioms facts nothing → ⊥
+IsFirstBroken-broken axioms facts nothing broken one none =
+    All-Contains (λ n. ¬ IsMet axioms facts n.1) (negatives axioms nothing) (broken, one.negative) none
+    (subst (λ l. Contains l (broken, one.negative)) (sym one.is_there) (Contains-middle one.before one.after (broken, one.negative))) one.met
+
+-- there is at most one defined reply
+pub IsReply-unique : (axioms : List Axiom) (facts : List Fact) (nothing : Option ℕ) (q : Query) (limit : ℕ) (a b : Reply)
+    → IsReply axioms facts nothing q limit a → IsReply axioms facts nothing q limit b → a ≡ b
+IsReply-unique axioms facts nothing q limit _ _ (is_inconsistent {broken = x} one) (is_inconsistent {broken = y} other) =
+    ap inconsistent (IsFirstBroken-unique axioms facts nothing x y one other)
+IsReply-unique axioms facts nothing q limit _ _ (is_inconsistent {broken = x} one) (is_too_many none _ _) =
+    absurd (IsFirstBroken-broken axioms facts nothing x one none)
+IsReply-unique axioms facts nothing q limit _ _ (is_inconsistent {broken = x} one) (is_found none _ _) =
+    absurd (IsFirstBroken-broken axioms facts nothing x one none)
+IsReply-unique axioms facts nothing q limit _ _ (is_too_many none _ _) (is_inconsistent {broken = y} other) =
+    absurd (IsFirstBroken-broken axioms facts nothing y other none)
+IsReply-unique axioms facts nothing q limit _ _ (is_too_many _ _ _) (is_too_many _ _ _) = refl
+IsReply-unique axioms facts nothing q limit _ _ (is_too_many {tuples = xs} _ certain over) (is_found {tuples = ys} _ also within) =
+    absurd (omega (arith, ap length (AreCertain-unique axioms facts q xs ys certain also)))
+IsReply-unique axioms facts nothing q limit _ _ (is_found none _ _) (is_inconsistent {broken = y} other) =
+    absurd (IsFirstBroken-broken axioms facts nothing y other none)
+IsReply-unique axioms facts nothing q limit _ _ (is_found {tuples = xs} _ certain within) (is_too_many {tuples = ys} _ also over) =
+    absurd (omega (arith, ap length (AreCertain-unique axioms facts q xs ys certain also)))
+IsReply-unique axioms facts nothing q limit _ _ (is_found {tuples = xs} _ certain _) (is_found {tuples = ys} _ also _) =
+    ap found (AreCertain-unique axioms facts q xs ys certain also)

@@ -1,5 +1,6 @@
 pub mod TableLemmas
 pub mod OrderLemmas
+pub mod DerivedLemmas
 pub mod MemberLemmas
 pub mod BelowLemmas
 pub mod StructureLemmas

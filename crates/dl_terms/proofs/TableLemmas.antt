@@ -1,6 +1,8 @@
 -- Pieces of one width: how many there are, what stands in them, and one more at the end.
-use Rattle.std.proofs.Common.{◌≡◌, ℕ, zero, suc, ◌+◌, ◌*◌, ◌<◌, ◌≤◌, List, [], ◌∷◌, ◌++◌, length, take, drop, get_or, slice_index_or, refl, ap, sym, ◌∙◌, arith, length-drop, get_or-take, get_or-drop}
-use Rattle.std.proofs.lemmas.List.{take-append-le, drop-append-le, take_all}
+use Rattle.std.proofs.Common.{◌≡◌, ℕ, zero, suc, ◌+◌, ◌*◌, ◌<◌, ◌≤◌, List, [], ◌∷◌, ◌++◌, length, take, drop, get_or, slice_index_or, refl, ap, sym, subst, ◌∙◌, arith, length-drop, get_or-take, get_or-drop}
+use Rattle.std.specs.List.{All}
+use Rattle.std.proofs.lemmas.List.{take-append-le, drop-append-le, take_all, length-take-le}
+use Rattle.std.proofs.lemmas.List.Elements.{All-nil, All-cons}
 use Rattle.dl_terms.specs.Table.{Table, cut}
 
 pub length-cut : (w n : ℕ) (xs : List ℕ) → length (cut w n xs) ≡ n
@@ -55,3 +57,14 @@ table_push t w n m xs ys tuple is e h grown more =
     let f : length tuple ≡ w = omega arith in
     let s : m ≡ suc n = omega arith in
     rw (s, grown, cut-append w n xs tuple e f) (ap (λ z. z.tuples ++ tuple ∷ []) is)
+
+-- each piece has the width
+pub all-cut : (w n : ℕ) (xs : List ℕ) → length xs ≡ n * w → All (λ t. length t ≡ w) (cut w n xs)
+all-cut w zero xs e = All-nil (λ t. length t ≡ w)
+all-cut w (suc n) xs e =
+    let l : length (drop w xs) ≡ n * w = omega (arith, length-drop w xs) in
+    All-cons (λ t. length t ≡ w) (take w xs) (cut w n (drop w xs)) (length-take-le w xs (omega arith)) (all-cut w n (drop w xs) l)
+
+-- each tuple of a table has the table's width
+pub table_widths : (t : Table) (w n : ℕ) (xs : List ℕ) → table w n xs ≡ t → length xs ≡ n * w → All (λ tuple. length tuple ≡ t.width) t.tuples
+table_widths t w n xs is e = subst (λ z. All (λ tuple. length tuple ≡ z.width) z.tuples) is (all-cut w n xs e)

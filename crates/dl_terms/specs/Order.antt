@@ -1,4 +1,5 @@
 -- The order of axioms: by kind, as the kinds are listed, and then operand by operand from left to right; and that of facts.
+-- It is this project's own. Numbers compare as names do by their bytes, since a number is a rank.
 use Rattle.std.specs.Prelude.{ℕ, Bool, true, false}
 use Rattle.std.specs.declared.cmp.Ordering.{Ordering}
 use Rattle.std.specs.Ordering.{nat_cmp, ordering_then}

@@ -1,4 +1,4 @@
--- The variables of a query, and well-formed queries.
+-- The variables of a query (Calvanese et al. 2007), and well-formed queries, whose limits are this project's own.
 use Rattle.std.specs.Prelude.{ℕ, ◌<◌, ◌≤◌, Bool, not, ◌&&◌, List, [], ◌∷◌, ◌++◌, length, nat_eq}
 use Rattle.std.specs.List.{All, Contains, filter, flat_map, list_any, range_with_len}
 use Rattle.dl_terms.specs.declared.query.Term.{Term}

@@ -1,4 +1,5 @@
--- The defined reply to a query: inconsistent, too many, or found.
+-- The defined reply to a query: inconsistent, too many, or found. That a broken axiom is named, and answers are counted against a
+-- limit, is this project's own: by the textbook every tuple is an answer where something is broken (Calvanese et al. 2007).
 use Rattle.std.specs.Prelude.{ℕ, ◌<◌, ◌≤◌, List, length}
 use Rattle.std.specs.declared.option.Option.{Option}
 use Rattle.dl_terms.specs.Answers.{AreCertain}

@@ -1,12 +1,11 @@
 //! Laws of the definitions: of what is below what, of the canonical structure, and of what is determined.
 ghost use Rattle.std.specs.Prelude.{◌≡◌, ℕ, ◌↔◌, List};
-ghost use Rattle.std.specs.Cmp.{IsTotalOrder};
 ghost use Rattle.std.specs.declared.option.Option.{Option};
 ghost use Rattle.dl_terms.specs.Below.{RoleBelow, ConceptBelow};
 ghost use Rattle.dl_terms.specs.Structure.{Element, IsElement, HoldsAt, Joins};
 ghost use Rattle.dl_terms.specs.Answers.{AreCertain};
 ghost use Rattle.dl_terms.specs.Broken.{IsFirstBroken};
-ghost use Rattle.dl_terms.specs.Order.{axiom_cmp};
+ghost use Rattle.dl_terms.specs.Reply.{Reply, IsReply};
 ghost use Rattle.dl_terms.specs.declared.role.Role.{Role};
 ghost use Rattle.dl_terms.specs.declared.role.Basic.{Basic};
 ghost use Rattle.dl_terms.specs.declared.role.Basic.TheVariants.{SomeOf};
@@ -34,11 +33,13 @@ pub fn some_of_is_a_neighbour()
         ↔ ((y : Element) × IsElement axioms facts y × Joins axioms facts r x y) }
 {}
 
-/// A query has one list of certain answers, and at most one axiom is the first broken one.
+/// A query has at most one list of certain answers and one defined reply, and at most one axiom is the first broken one.
 pub fn answers_are_determined()
     ensures certain { (axioms : List Axiom) (facts : List Fact) (q : Query) (xs ys : List (List ℕ))
         → AreCertain axioms facts q xs → AreCertain axioms facts q ys → xs ≡ ys }
-    ensures broken {
-        (axioms : List Axiom) (facts : List Fact) (nothing : Option ℕ) (a b : Option Axiom)
+    ensures broken { (axioms : List Axiom) (facts : List Fact) (nothing : Option ℕ) (a b : Option Axiom)
         → IsFirstBroken axioms facts nothing a → IsFirstBroken axioms facts nothing b → a ≡ b }
+    ensures reply { (axioms : List Axiom) (facts : List Fact) (nothing : Option ℕ) (q : Query) (limit : ℕ)
+        (a b : Reply) → IsReply axioms facts nothing q limit a
+        → IsReply axioms facts nothing q limit b → a ≡ b }
 {}

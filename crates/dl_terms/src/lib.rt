@@ -15,7 +15,7 @@ pub mod worked_examples;
 pub use axiom::{Axiom, Fact, Part, Signature};
 pub use list::List;
 pub use memory::NoMemory;
-pub use order::{axioms_are_ordered, facts_are_ordered};
+pub use order::{axioms_are_ordered, facts_are_ordered, roles_are_ordered};
 pub use query::{Atom, Disjunct, Probe, Query, Term};
 pub use role::{Base, Basic, Negative, Normal, Role};
 pub use steps::Steps;

@@ -32,21 +32,21 @@ impl<T> List<T> {
         }
     }
 
-    /// How many items there are.
+    /// How many items there are. It takes no memory.
     pub fn len(&self) -> usize
         ensures { result ≡ length self.now }
     {
         self.items.len()
     }
 
-    /// The items as a slice.
+    /// The items as a slice. It takes no memory.
     pub fn as_slice(&self) -> &[T]
         ensures { result.now ≡ self.now }
     {
         self.items.as_slice()
     }
 
-    /// The item at a place, or `None` past the end.
+    /// The item at a place, counted from 0, or `None` past the end. It takes no memory.
     pub fn get(&self, index: usize) -> Option<&T>
         ensures { option_copied result ≡ slice_get self.now index }
     {

@@ -1,13 +1,20 @@
-// The order of axioms is total, and axioms that compare equal are the same.
+// The orders of roles, axioms and facts are total, and what compares equal is the same.
 ghost use Rattle.std.specs.Prelude.{◌≡◌};
-ghost use Rattle.std.specs.declared.cmp.Ordering.{Ordering};
 ghost use Rattle.std.specs.declared.cmp.Ordering.TheVariants.{Equal};
 ghost use Rattle.std.specs.Cmp.{IsTotalOrder};
-ghost use Rattle.dl_terms.specs.Order.{axiom_cmp, fact_cmp};
+ghost use Rattle.dl_terms.specs.Order.{role_cmp, axiom_cmp, fact_cmp};
+ghost use Rattle.dl_terms.specs.declared.role.Role.{Role};
 ghost use Rattle.dl_terms.specs.declared.axiom.Axiom.{Axiom};
 ghost use Rattle.dl_terms.specs.declared.axiom.Fact.{Fact};
 
-use crate::{Axiom, Fact};
+use crate::{Axiom, Fact, Role};
+
+/// The law of the order of roles, which is `Role`'s `Ord`: it is total, and roles that compare equal are the same.
+pub fn roles_are_ordered()
+    ensures derived { (r s : Role) → ⟦<Role as Ord>⟧.cmp r s ≡ role_cmp r s }
+    ensures total { IsTotalOrder role_cmp }
+    ensures equal { (r s : Role) → role_cmp r s ≡ Equal → r ≡ s }
+{}
 
 /// The law of the order of axioms, which is `Axiom`'s `Ord`: it is total, and axioms that compare equal are the same.
 pub fn axioms_are_ordered()

@@ -14,7 +14,8 @@ pub enum Atom {
     Link { role: u32, from: Term, to: Term },
 }
 
-/// A conjunctive query. Its variables are the numbers below `vars`; those of the atoms that are not in the head are existential.
+/// A conjunctive query. Its variables are the numbers below `vars`; those of the atoms that are not in the head are existential
+/// (Calvanese, De Giacomo, Lembo, Lenzerini, Rosati 2007).
 #[derive(Drop, Debug, PartialEq, Eq)]
 pub struct Query {
     pub head: List<u8>,
@@ -29,7 +30,7 @@ pub enum Probe {
     Joined { role: u32, from: Term, to: Term },
 }
 
-/// A disjunct of a rewritten query, over names alone.
+/// A disjunct of a rewritten query, over names alone. Its variables are the numbers below `vars`.
 #[derive(Drop, Debug, PartialEq, Eq)]
 pub struct Disjunct {
     pub head: List<Term>,

@@ -1,6 +1,7 @@
 use crate::List;
 
-/// A role name: one of the input, or the filler of a role and a class, which stands for the members of a class that some role leads to.
+/// A role name: one of the input, or the filler of a role and a class: a role below that role, which leads to members of that class
+/// alone. Fillers are this project's own.
 #[derive(Clone, Copy, Debug, PartialEq, Eq, PartialOrd, Ord, Hash)]
 pub enum Base {
     /// An object property, by its number.
@@ -35,7 +36,8 @@ pub enum Negative {
     NoLoop(Role),
 }
 
-/// The normal form of a list of axioms: inclusions of roles, inclusions of basic concepts, and negatives, each beside the place of its axiom.
+/// The normal form of a list of axioms: inclusions of roles, inclusions of basic concepts, and negatives. Each negative is beside the
+/// place of its axiom in the list, from 0.
 #[derive(Drop, Debug, PartialEq, Eq)]
 pub struct Normal {
     pub roles: List<(Role, Role)>,

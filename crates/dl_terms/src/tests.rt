@@ -2,7 +2,7 @@ ghost use Rattle.std.specs.Prelude.{◌≡◌, ◌<◌};
 
 use crate::{
     Axiom, Base, Basic, Fact, List, NoMemory, Part, Role, Steps, Tuples, axioms_are_ordered,
-    facts_are_ordered,
+    facts_are_ordered, roles_are_ordered,
 };
 use std::alloc::Global;
 use std::marker::Brand;
@@ -64,6 +64,7 @@ fn ascending_axioms(alloc: Global) -> Result<List<Axiom>, NoMemory> {
 
 #[test]
 fn axioms_ascend(rt: HostRuntime) -> Result<(), Fail> {
+    roles_are_ordered();
     axioms_are_ordered();
     facts_are_ordered();
     let axioms = ascending_axioms(rt.alloc())?;

@@ -1,5 +1,5 @@
 // Tuples of names of one width, in one vector.
-ghost use Rattle.std.specs.Prelude.{◌≡◌, ◌∷◌, ◌++◌, ◌<◌, [], length, slice_index, slice_index_or, OnOk, OnErr};
+ghost use Rattle.std.specs.Prelude.{◌≡◌, ◌∷◌, ◌++◌, ◌<◌, [], length, slice_index, slice_index_or, All, OnOk, OnErr};
 
 use crate::NoMemory;
 use std::alloc::Global;
@@ -46,21 +46,22 @@ impl Tuples {
         }
     }
 
-    /// How many names each tuple has.
+    /// How many names each tuple has. It takes no memory.
     pub fn width(&self) -> u32
-        ensures { result ≡ self.now.width }
+        ensures width { result ≡ self.now.width }
+        ensures each { All (λ tuple. length tuple ≡ self.now.width) self.now.tuples }
     {
         self.width
     }
 
-    /// How many tuples there are.
+    /// How many tuples there are. It takes no memory.
     pub fn len(&self) -> u64
         ensures { result ≡ length self.now.tuples }
     {
         self.count
     }
 
-    /// The name at the place `j` of the tuple at the place `i`.
+    /// The name at the place `j` of the tuple at the place `i`, both counted from 0. It takes no memory.
     pub fn name(&self, i: u64, j: u32) -> u32
         requires tuple { i < length self.now.tuples }
         requires place { j < self.now.width }
@@ -70,14 +71,15 @@ impl Tuples {
         names[i as usize * self.width as usize + j as usize]
     }
 
-    /// Adds a tuple at the end. After `NoMemory` the tuples are as before.
+    /// Adds a tuple, which is as long as the width, at the end. After `NoMemory` the tuples are as before.
+    /// It comes also where 2^64 - 1 tuples are there, which only tuples of no name can reach.
     pub fn push(&mut self, tuple: &[u32]) -> Result<(), NoMemory>
         requires { length tuple.now ≡ self.old.width }
         ensures width { self.new.width ≡ self.old.width }
         ensures ok { OnOk result (self.new.tuples ≡ self.old.tuples ++ tuple.now ∷ []) }
         ensures err { OnErr result (self.new.tuples ≡ self.old.tuples) }
     {
-        // A count at its end is want of memory: it needs 2^64 tuples, which only empty ones can reach.
+        // A count at its end is want of memory.
         let Some(count) = self.count.checked_add(1) else {
             return Err(NoMemory);
         };

@@ -1,16 +1,13 @@
 -- The derived comparison goes by kind, and at one kind by the operands' own comparisons, which are those of the definition.
-use Rattle.std.proofs.Common.{◌≡◌, Bool, true, false, List, refl, ap, ap₂}
+use Rattle.std.proofs.Common.{◌≡◌, List, refl, ap, ap₂}
 use Rattle.std.proofs.Math.Path.{fun_ext}
-use Rattle.std.specs.Ordering.{ordering_then, nat_cmp, bool_cmp}
+use Rattle.std.specs.Ordering.{ordering_then, nat_cmp}
 use Rattle.std.specs.Cmp.Lexicographic.{slice_cmp}
-use Rattle.dl_terms.specs.Order.{flag, base_cmp, role_cmp, basic_cmp, part_cmp, axiom_cmp}
-use Rattle.dl_terms.specs.contracts.role.BaseOrd.TheImpl as base_impl
+use Rattle.dl_terms.specs.Order.{role_cmp, basic_cmp, part_cmp, axiom_cmp}
 use Rattle.dl_terms.specs.contracts.role.RoleOrd.TheImpl as role_impl
 use Rattle.dl_terms.specs.contracts.role.BasicOrd.TheImpl as basic_impl
 use Rattle.dl_terms.specs.contracts.axiom.PartOrd.TheImpl as part_impl
 use Rattle.dl_terms.specs.contracts.axiom.AxiomOrd.TheImpl as axiom_impl
-use Rattle.dl_terms.specs.declared.role.Base.{Base}
-use Rattle.dl_terms.specs.declared.role.Base.TheVariants.{Named, Filler}
 use Rattle.dl_terms.specs.declared.role.Role.{Role}
 use Rattle.dl_terms.specs.declared.role.Basic.{Basic}
 use Rattle.dl_terms.specs.declared.role.Basic.TheVariants as basic
@@ -19,22 +16,8 @@ use Rattle.dl_terms.specs.declared.axiom.Part.TheVariants as part
 use Rattle.dl_terms.specs.declared.axiom.Axiom.{Axiom}
 use Rattle.dl_terms.specs.declared.axiom.Axiom.TheVariants.{SubClass, EquivalentClasses, DisjointClasses, SubRole, EquivalentRoles, DisjointRoles, InverseRoles, Domain, Range, Symmetric, Asymmetric, Irreflexive}
 use Rattle.dl_terms.proofs.OrderLemmas.{axiom_cmp_total, axiom_cmp-equal}
+use Rattle.dl_terms.proofs.DerivedLemmas.{roles}
 use Rattle.dl_terms.proofs.order.axioms_are_ordered.Goals as goal
-
-flags : (i j : Bool) → bool_cmp i j ≡ nat_cmp (flag i) (flag j)
-flags false false = refl
-flags false true = refl
-flags true false = refl
-flags true true = refl
-
-bases : (a b : Base) → (base_impl.cmp-value).it a b ≡ base_cmp a b
-bases (Named p) (Named q) = refl
-bases (Named p) (Filler q j d) = refl
-bases (Filler p i c) (Named q) = refl
-bases (Filler p i c) (Filler q j d) = ap (λ o. ordering_then (nat_cmp p q) (ordering_then o (nat_cmp c d))) (flags i j)
-
-roles : (r s : Role) → (role_impl.cmp-value).it r s ≡ role_cmp r s
-roles r s = ap₂ ordering_then (bases r.base s.base) (flags r.inverse s.inverse)
 
 basics : (b c : Basic) → (basic_impl.cmp-value).it b c ≡ basic_cmp b c
 basics (basic.SomeOf r) (basic.SomeOf s) = roles r s
