@@ -1,9 +1,13 @@
--- Files in memory: a list of names with their bytes.
+-- The length of files, and files in memory: a list of names with their bytes.
 use Rattle.std.specs.Prelude.{ℕ, ◌≢◌, List, [], ◌++◌, map, length, take, drop, Option, unwrap_or, String, string_bytes, Vec}
 use Rattle.std.specs.declared.alloc.Global.{Global}
 use Rattle.std.specs.Str.{bytes_eq}
 use Rattle.std.specs.Map.{lookup, keys_of}
 use Rattle.std.specs.List.{AllPairs}
+
+-- the longest file that is read, in bytes
+abbrev pub max_bytes : ℕ
+max_bytes = 268435456
 
 -- the names and the bytes of these files
 abbrev pub files_of : List (String Global × Vec ℕ Global) → List (List ℕ × List ℕ)

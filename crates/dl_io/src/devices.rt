@@ -25,7 +25,8 @@ pub trait Library {
     ghost faults: { Self → ℕ };
 
     /// Copies bytes of a file, from a place on, to the front of `buf`, and answers how many. For a
-    /// buffer that isn't empty the answer is 0 at the end of the file and nowhere else.
+    /// buffer that isn't empty the answer is 0 at the end of the file and nowhere else. `Failed`
+    /// comes only where the count of faults rose; a name that can't be opened is such a fault.
     fn read(&mut self, name: &str, from: u64, buf: &mut [u8]) -> Result<usize, Failed>
         ensures fits { IfOk result (λ n. n ≤ length buf.new) }
         ensures copied { IfOk result (λ n.
@@ -45,7 +46,8 @@ pub trait Sink {
     ghost faults: { Self → ℕ };
 
     /// Takes the first bytes of a piece, and answers how many: at least one where the piece isn't
-    /// empty. A sink that failed got nothing of the piece.
+    /// empty. `Failed` comes only where the count of faults rose. A sink that failed got nothing of
+    /// the piece.
     fn write(&mut self, piece: &[u8]) -> Result<usize, Failed>
         ensures fits { IfOk result (λ n. n ≤ length piece.now) }
         ensures some { IfOk result (λ n. 0 < length piece.now → 0 < n) }

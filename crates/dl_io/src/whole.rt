@@ -1,5 +1,6 @@
 ghost use Rattle.std.specs.Prelude.{◌≡◌, ◌+◌, ◌<◌, ◌≤◌, ◌↔◌, length, take, drop, vec_len, IfOk, IfSome, IsErrOf};
 ghost use Rattle.dl_io.specs.Count.{HasRisen};
+ghost use Rattle.dl_io.specs.Files.{max_bytes};
 ghost use Rattle.dl_io.specs.Reading.{Copies};
 ghost use Rattle.dl_io.specs.declared.whole.FileFault.TheVariants.{Failed, NoMemory};
 
@@ -52,8 +53,9 @@ impl From<AllocError> for FileFault {
     }
 }
 
-/// Reads a file whole, in pieces of 64 KiB into one buffer that grows. After a `NoMemory` the
-/// library tells what it told before.
+/// Reads a file whole, in pieces of 64 KiB into one buffer that grows, each behind what was read. `Failed` comes only where the
+/// library's count of faults rose, and `TooLong` only where the file has more than `MAX_BYTES` bytes. After each answer the library
+/// tells what it told before.
 pub fn read_whole<L: Library>(
     alloc: Global,
     files: &mut L,
@@ -61,9 +63,9 @@ pub fn read_whole<L: Library>(
 ) -> Result<Vec<u8>, FileFault>
     ensures whole { IfOk result (λ bytes.
         IfSome (L.told files.old) (λ file_of. bytes.items ≡ file_of name.now)) }
-    ensures not_too_long { IfOk result (λ bytes. vec_len bytes ≤ MAX_BYTES) }
+    ensures not_too_long { IfOk result (λ bytes. vec_len bytes ≤ max_bytes) }
     ensures too_long { IsErrOf result FileFault.TooLong →
-        IfSome (L.told files.old) (λ file_of. MAX_BYTES < length (file_of name.now)) }
+        IfSome (L.told files.old) (λ file_of. max_bytes < length (file_of name.now)) }
     ensures failed { IsErrOf result FileFault.Failed →
         HasRisen (L.faults files.old) (L.faults files.new) }
     ensures unchanged { L.told files.new ≡ L.told files.old }
@@ -91,7 +93,7 @@ fn read_piece<L: Library>(
     len: usize,
 ) -> Result<usize, FileFault>
     requires within { len ≤ vec_len buffer.old }
-    requires in_range { len ≤ MAX_BYTES }
+    requires in_range { len ≤ max_bytes }
     ensures front { take len buffer.new.items ≡ take len buffer.old.items }
     ensures fits { IfOk result (λ n. len + n ≤ vec_len buffer.new) }
     ensures copied { IfOk result (λ n. IfSome (L.told files.old) (λ file_of.

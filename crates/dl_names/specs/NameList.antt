@@ -3,6 +3,10 @@ use Rattle.std.specs.Prelude.{ℕ, ◌≡◌, ◌≢◌, Bool, List, [], ◌∷�
 use Rattle.std.specs.List.{list_any, position_or_len}
 use Rattle.std.specs.Str.{bytes_eq}
 
+-- the most names of a run
+abbrev pub max_names : ℕ
+max_names = 4000000
+
 -- a text, by the bytes of its UTF-8
 abbrev pub Text : Type 0
 Text = List ℕ

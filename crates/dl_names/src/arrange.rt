@@ -2,15 +2,15 @@
 ghost use Rattle.std.specs.Prelude.{◌≡◌, ◌≢◌, ℕ, ◌<◌, ◌≤◌, map, slice_index, slice_index_or, vec_len, All, AllPairs, IfOk, String};
 ghost use Rattle.indexmap.specs.IndexSet.{index_set_len};
 ghost use Rattle.dl_names.specs.Arrange.{IsNumbered};
+ghost use Rattle.dl_names.specs.NameList.{max_names};
 
-use crate::MAX_NAMES;
 use dl_terms::NoMemory;
 use indexmap::IndexSet;
 use std::alloc::Global;
 
 // Each text with its place.
 pub(crate) fn numbered(texts: IndexSet<String>) -> Result<Vec<(String, u32)>, NoMemory>
-    requires { index_set_len texts ≤ MAX_NAMES }
+    requires { index_set_len texts ≤ max_names }
     ensures { IfOk result (λ pairs. IsNumbered texts.keys pairs.items) }
 {
     let alloc = *texts.allocator();
@@ -21,7 +21,7 @@ pub(crate) fn numbered(texts: IndexSet<String>) -> Result<Vec<(String, u32)>, No
 
 // For each place the index of its pair.
 pub(crate) fn ranks_of(pairs: &Vec<(String, u32)>) -> Result<Vec<u32>, NoMemory>
-    requires fits { vec_len pairs.now ≤ MAX_NAMES }
+    requires fits { vec_len pairs.now ≤ max_names }
     requires within { All (λ pair. pair.1 < vec_len pairs.now) pairs.now.items }
     requires distinct { AllPairs (λ one two. one.1 ≢ two.1) pairs.now.items }
     ensures len { IfOk result (λ ranks. vec_len ranks ≡ vec_len pairs.now) }

@@ -1,8 +1,7 @@
 ghost use Rattle.std.specs.Prelude.{◌≡◌, ◌<◌, ◌≤◌, ◌↔◌, ℕ, length, map, is_some, IsTrue, slice_get, slice_index, string_bytes};
-ghost use Rattle.dl_names.specs.NameList.{has_name};
+ghost use Rattle.dl_names.specs.NameList.{max_names, has_name};
 ghost use Rattle.dl_names.specs.Frozen.{IsAscending};
 
-use crate::MAX_NAMES;
 use std::marker::Model;
 
 /// The names of a run in byte order, which is the order of `str`. The number of a name is its rank there, from 0 on.
@@ -15,30 +14,30 @@ pub struct Names {
 impl Model for Names {
     ghost use Rattle.std.specs.Prelude.{List, ℕ, map, length, ◌≤◌, string_bytes};
     ghost use Rattle.dl_names.specs.Frozen.{IsAscending};
-    ghost use Rattle.dl_names.specs.declared.set.TheConstants.{MAX_NAMES};
+    ghost use Rattle.dl_names.specs.NameList.{max_names};
 
     ghost Value = { List (List ℕ) };
 
     ghost view = { λ n. map string_bytes n.texts.items };
 
     ghost invariant = { λ n.
-        IsAscending (map string_bytes n.texts.items) × (length n.texts.items ≤ MAX_NAMES) };
+        IsAscending (map string_bytes n.texts.items) × (length n.texts.items ≤ max_names) };
 }
 
 impl Names {
     // The texts as names.
     pub(crate) fn of(texts: Vec<String>) -> Names
         requires ascending { IsAscending (map string_bytes texts.items) }
-        requires fits { length texts.items ≤ MAX_NAMES }
+        requires fits { length texts.items ≤ max_names }
         ensures { result ≡ map string_bytes texts.items }
     {
         Names { texts }
     }
 
-    /// How many names there are, at most `MAX_NAMES`.
+    /// How many names there are, at most `MAX_NAMES`. It takes no memory.
     pub fn len(&self) -> u32
         ensures len { result ≡ length self.now }
-        ensures fits { result ≤ MAX_NAMES }
+        ensures fits { result ≤ max_names }
         ensures ascending { IsAscending self.now }
     {
         self.texts.len() as u32
@@ -51,7 +50,7 @@ impl Names {
         self.texts.is_empty()
     }
 
-    /// The text of the name with number `n`.
+    /// The text of the name with number `n`, which is below `len`. It takes no memory.
     pub fn text(&self, n: u32) -> &str
         requires { n < length self.now }
         ensures { slice_get self.now n ≡ Some result.now }
@@ -93,7 +92,8 @@ impl Ranks {
         Ranks { ranks }
     }
 
-    /// The rank of the text that `NameSet::add` gave this place, which is its number among the names. It takes no memory.
+    /// The rank of the text that `NameSet::add` gave this place, which is its number among the names. The place is one that `add` gave.
+    /// It takes no memory.
     pub fn of(&self, place: u32) -> u32
         requires { place < length self.now }
         ensures { result ≡ slice_index self.now place }

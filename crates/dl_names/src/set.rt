@@ -1,5 +1,5 @@
-ghost use Rattle.std.specs.Prelude.{◌≡◌, ◌+◌, ◌<◌, ◌≤◌, ◌↔◌, [], length, true, false, IsOk, IfOk, OnOk, OnErr};
-ghost use Rattle.dl_names.specs.NameList.{added, has_name, place_of, HasNoRepeats};
+ghost use Rattle.std.specs.Prelude.{◌≡◌, ◌<◌, ◌≤◌, ◌↔◌, [], length, true, false, IsOk, IfOk, OnOk, OnErr};
+ghost use Rattle.dl_names.specs.NameList.{max_names, added, has_name, place_of, HasNoRepeats};
 ghost use Rattle.dl_names.specs.Frozen.{IsFrozen};
 
 use crate::arrange::{numbered, ranks_of, texts_of};
@@ -20,15 +20,14 @@ pub struct NameSet {
 
 impl Model for NameSet {
     ghost use Rattle.std.specs.Prelude.{List, ℕ, map, length, ◌≤◌, string_bytes};
-    ghost use Rattle.dl_names.specs.NameList.{HasNoRepeats};
-    ghost use Rattle.dl_names.specs.declared.set.TheConstants.{MAX_NAMES};
+    ghost use Rattle.dl_names.specs.NameList.{max_names, HasNoRepeats};
 
     ghost Value = { List (List ℕ) };
 
     ghost view = { λ s. map string_bytes s.texts.keys };
 
     ghost invariant = { λ s.
-        HasNoRepeats (map string_bytes s.texts.keys) × (length s.texts.keys ≤ MAX_NAMES) };
+        HasNoRepeats (map string_bytes s.texts.keys) × (length s.texts.keys ≤ max_names) };
 }
 
 impl NameSet {
@@ -51,11 +50,11 @@ impl NameSet {
 
         ensures known { has_name self.old text.now ≡ true → IsOk result }
         ensures full { (result ≡ Err NameFault.Full) ↔
-            ((length self.old ≡ MAX_NAMES) × (has_name self.old text.now ≡ false)) }
+            ((length self.old ≡ max_names) × (has_name self.old text.now ≡ false)) }
         ensures err { OnErr result (self.new ≡ self.old) }
 
         ensures distinct { HasNoRepeats self.new }
-        ensures fits { length self.new ≤ MAX_NAMES }
+        ensures fits { length self.new ≤ max_names }
     {
         if let Some(place) = self.texts.get_index_of(text) {
             return Ok(place as u32);

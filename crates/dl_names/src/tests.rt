@@ -14,12 +14,7 @@ fn places_by_first_occurrence_and_ranks_by_bytes(rt: HostRuntime) {
         ("b", 0),
         ("a-long-name-of-more-than-one-word", 6),
     ] {
-        // A refusal leaves the names as before, so that a second try gives the same place.
-        let added = match set.add(text) {
-            Err(NameFault::NoMemory) => set.add(text),
-            other => other,
-        };
-        assert_eq!(rt; added, Ok(place), "at {text}");
+        assert_eq!(rt; set.add(text), Ok(place), "at {text}");
     }
     let Ok((names, ranks)) = set.freeze() else {
         panic!(rt; "memory was refused");
