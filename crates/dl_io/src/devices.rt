@@ -3,19 +3,12 @@ ghost use Rattle.dl_io.specs.Count.{HasRisen};
 ghost use Rattle.dl_io.specs.Reading.{Copies, EndsAt};
 ghost use Rattle.dl_io.specs.Writing.{Gets};
 
-use std::fmt;
+use thiserror::Error;
 
 /// The answer of a read or a write that failed. It says nothing of the cause.
-#[derive(Clone, Copy, Debug, PartialEq, Eq)]
+#[derive(Clone, Copy, Debug, PartialEq, Eq, Error)]
+#[error("reading or writing failed")]
 pub struct Failed;
-
-impl fmt::Display for Failed {
-    fn fmt<W: fmt::Write>(&self, f: &mut fmt::Formatter<W>) -> fmt::Result {
-        write!(f, "reading or writing failed")
-    }
-}
-
-impl std::error::Error for Failed {}
 
 /// Files, each with a name. Reading doesn't change what the library tells.
 pub trait Library {

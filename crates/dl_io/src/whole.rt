@@ -6,7 +6,7 @@ ghost use Rattle.dl_io.specs.declared.whole.FileFault.TheVariants.{Failed, NoMem
 
 use crate::devices::{self, Library};
 use std::alloc::{AllocError, Global};
-use std::fmt;
+use thiserror::Error;
 
 /// The longest file that `read_whole` gives, in bytes.
 pub const MAX_BYTES: usize = 268_435_456;
@@ -15,27 +15,18 @@ pub const MAX_BYTES: usize = 268_435_456;
 const PIECE: usize = 64 * 1024;
 
 /// Why a file wasn't read whole.
-#[derive(Clone, Copy, Debug, PartialEq, Eq)]
+#[derive(Clone, Copy, Debug, PartialEq, Eq, Error)]
 pub enum FileFault {
     /// A read failed.
+    #[error("reading failed")]
     Failed,
     /// The file has more than `MAX_BYTES` bytes.
+    #[error("the file is too long")]
     TooLong,
     /// There was no memory for the bytes.
+    #[error("no memory")]
     NoMemory,
 }
-
-impl fmt::Display for FileFault {
-    fn fmt<W: fmt::Write>(&self, f: &mut fmt::Formatter<W>) -> fmt::Result {
-        match self {
-            FileFault::Failed => write!(f, "reading failed"),
-            FileFault::TooLong => write!(f, "the file is too long"),
-            FileFault::NoMemory => write!(f, "no memory"),
-        }
-    }
-}
-
-impl std::error::Error for FileFault {}
 
 impl From<devices::Failed> for FileFault {
     ghost from_gives = { λ _ fault. fault ≡ Failed };
