@@ -1,6 +1,6 @@
-ghost use Rattle.std.specs.Prelude.{ℕ, ◌≡◌, ◌≤◌, ◌↔◌, ◌⊎◌, List, [], length, take, true, false, Option, Some, None, IfOk, OnOk, OnErr, IsErr, is_ok, not, vec_capacity};
+ghost use Rattle.std.specs.Prelude.{◌≡◌, ◌≤◌, ◌↔◌, ◌⊎◌, [], length, true, false, Some, None, IfOk, OnOk, OnErr, IsErr, is_ok, not, vec_capacity};
 ghost use Rattle.dl_io.specs.Files.{files_of, file_at, bytes_of, HaveDifferentNames, part_of, with_front};
-ghost use Rattle.dl_io.specs.Buffer.{Buffer, told_bytes, after_piece};
+ghost use Rattle.dl_io.specs.Buffer.{told_bytes, after_piece};
 ghost use Rattle.dl_io.specs.Schedule.{FailsNext, after_call};
 ghost use Rattle.dl_io.specs.Memory.{FaultyFiles, FaultyBuffer};
 

@@ -1,4 +1,4 @@
-ghost use Rattle.std.specs.Prelude.{ℕ, ◌≡◌, ◌≤◌, List, [], length, take, Option, Some, Ok, IfOk, vec_capacity, option_copied, false};
+ghost use Rattle.std.specs.Prelude.{ℕ, ◌≡◌, ◌≤◌, List, [], length, Option, Some, Ok, vec_capacity, option_copied, false};
 ghost use Rattle.dl_io.specs.Files.{files_of, file_at, bytes_of, HaveDifferentNames, part_of, with_front};
 ghost use Rattle.dl_io.specs.Buffer.{Buffer, told_bytes, after_piece};
 

@@ -1,7 +1,6 @@
 -- What is printed is decided by the files.
-use Rattle.std.proofs.Common.{◌≡◌, ℕ, List, Option, None, Some, IfSome, length, subst, ap, refl, arith}
+use Rattle.std.proofs.Common.{◌≡◌, ℕ, List, Option, None, Some, IfSome, subst, refl}
 use Rattle.dl_terms.specs.Reply.{IsReply, found, too_many}
-use Rattle.dl_terms.specs.Reply.IsReply.{is_too_many, is_found}
 use Rattle.dl_terms.specs.declared.query.Query.{Query}
 use Rattle.dl_run.specs.Input.{Load, AreInput}
 use Rattle.dl_run.specs.Defined.{AnswerText, AnswerPrints}
@@ -12,7 +11,7 @@ use Rattle.dl_run.specs.Stops.{stop_of_fault}
 use Rattle.dl_run.specs.declared.fault.Fault.{Fault}
 use Rattle.dl_run.specs.declared.fault.Fault.TheVariants as faults
 use Rattle.dl_run.specs.declared.stop.Stop.TheVariants as stops
-use Rattle.dl_run.proofs.UniqueLemmas.{certain_unique}
+use Rattle.dl_terms.proofs.AnswerLemmas.{IsReply-unique}
 
 -- what holds of the bytes that were read holds of the files, where the library tells them
 pub at_files : (told : Option (List ℕ → List ℕ)) (o d q : List ℕ) {x y z : List ℕ} (P : List ℕ → List ℕ → List ℕ → Type 0)
@@ -25,8 +24,8 @@ at_files (Some file_of) o d q {x} {y} {z} P ex ey ez h =
 -- a reply of one kind excludes the other
 replies_exclude : (load : Load) (asked : Query) (limit : ℕ) {tuples : List (List ℕ)}
     → IsReply load.axioms load.facts load.nothing asked limit too_many → IsReply load.axioms load.facts load.nothing asked limit (found tuples) → ⊥
-replies_exclude load asked limit (is_too_many _ certain over) (is_found _ also within) =
-    omega (arith, ap length (certain_unique _ _ _ _ _ certain also))
+replies_exclude load asked limit {tuples} one other =
+    let same : too_many ≡ found tuples = IsReply-unique load.axioms load.facts load.nothing asked limit too_many (found tuples) one other in cc
 
 pub status_unique : (load : Load) (asked : Query) (limit : ℕ) {status other : Status} {text also : List ℕ}
     → AnswerText load asked limit status text → AnswerText load asked limit other also → status ≡ other

@@ -3,15 +3,14 @@ use Rattle.std.proofs.Common.{◌≡◌, ℕ, ◌<◌, ◌≤◌, List, [], ◌�
 use Rattle.std.specs.declared.cmp.Ordering.{Ordering}
 use Rattle.std.specs.declared.cmp.Ordering.TheVariants.{Less, Equal, Greater}
 use Rattle.std.specs.Ordering.{nat_cmp, ordering_then}
-use Rattle.std.specs.Cmp.{IsTotalOrder}
 use Rattle.std.specs.List.{Contains, All, AllByRecursion}
 use Rattle.std.specs.List.Sorted.{IsStrictlySortedBy}
 use Rattle.std.proofs.lemmas.List.{length-map}
 use Rattle.dl_names.specs.NameList.{Text, added}
 use Rattle.dl_names.specs.Frozen.{IsFrozen}
-use Rattle.dl_names.specs.declared.set.TheConstants.{MAX_NAMES}
+use Rattle.dl_names.specs.NameList.{max_names}
 use Rattle.dl_names.proofs.NameListLemmas.{length-Extends, Extends-added}
-use Rattle.dl_io.specs.declared.whole.TheConstants.{MAX_BYTES}
+use Rattle.dl_io.specs.Files.{max_bytes}
 use Rattle.dl_terms.specs.Sets.{IsSetOf}
 use Rattle.dl_terms.specs.Order.{axiom_cmp, fact_cmp}
 use Rattle.dl_terms.specs.Renamed.{renamed_axiom, renamed_fact, renamed_query}
@@ -36,7 +35,9 @@ use Rattle.dl_run.proofs.DataLemmas.{IsData-unique}
 use Rattle.dl_run.proofs.OntologyLemmas.{IsOntology-unique}
 use Rattle.dl_run.proofs.QueryLemmas.{IsQuery-unique}
 use Rattle.dl_run.proofs.TokenLemmas.{NameThen-grows}
-use Rattle.dl_run.proofs.UniqueLemmas.{set_unique, frozen_unique}
+use Rattle.dl_names.proofs.SameFrozenLemmas.{IsFrozen-same_names, IsFrozen-same_ranks}
+use Rattle.dl_terms.proofs.AnswerLemmas.{IsSetOf-unique}
+use Rattle.dl_terms.proofs.OrderLemmas.{axioms_linear, facts_linear}
 
 -- names only grow
 pub IsData-grows : {bytes : List ℕ} {names after : List Text} {facts : List Fact} → IsData bytes names facts after → length names ≤ length after
@@ -84,7 +85,7 @@ renamed_class_facts ranks (p ∷ pairs) = ap (λ rest. Is (slice_index ranks p.0
 module _ (o d q : List ℕ) (met-1 met-2 met : List Text) (pairs facts : List (ℕ × ℕ)) (class : ℕ)
     (is_ontology : IsOntology o [] (inclusions_of pairs) met-1) (is_data : IsData d met-1 (class_facts_of facts) met-2)
     (is_query : IsQuery q met-2 (members_of class) met) where
-  pub input_from : length o ≤ MAX_BYTES → length d ≤ MAX_BYTES → length q ≤ MAX_BYTES → length met ≤ MAX_NAMES
+  pub input_from : length o ≤ max_bytes → length d ≤ max_bytes → length q ≤ max_bytes → length met ≤ max_names
       → (names : List Text) (pairs' facts' : List (ℕ × ℕ)) (class' : ℕ) → IsNumbered met pairs facts class names pairs' facts' class'
       → AreInput o d q (load_of names pairs' facts') (members_of class')
   input_from o_fits d_fits q_fits fits names pairs' facts' class' n = record {
@@ -114,10 +115,10 @@ module _ (o d q : List ℕ) (met-1 met-2 met : List Text) (pairs facts : List (�
 
 -- the names that are met are those of every input of the bytes
 module _ {o d q : List ℕ} {load : Load} {asked : Query} (input : AreInput o d q load asked) where
-  pub met_first_fits : length input.met_first ≤ MAX_NAMES
+  pub met_first_fits : length input.met_first ≤ max_names
   met_first_fits = omega (arith, input.names_fit, IsData-grows input.is_data, NameThen-grows input.is_query.predicate)
 
-  pub met_then_fits : length input.met_then ≤ MAX_NAMES
+  pub met_then_fits : length input.met_then ≤ max_names
   met_then_fits = omega (arith, input.names_fit, NameThen-grows input.is_query.predicate)
 
   pub same_first : {axioms : List Axiom} {met-1 : List Text} → IsOntology o [] axioms met-1 → (input.axioms_read ≡ axioms) × (input.met_first ≡ met-1)
@@ -138,21 +139,22 @@ same_load : (l m : Load) → l.names ≡ m.names → l.axioms ≡ m.axioms → l
 same_load l m a b c d e = λ i. record { names = a i; axioms = b i; facts = c i; skipped = d i; nothing = e i }
 
 -- the files give one input at most
-pub AreInput-unique : {o d q : List ℕ} {load other : Load} {asked also : Query} → IsTotalOrder axiom_cmp → IsTotalOrder fact_cmp
+pub AreInput-unique : {o d q : List ℕ} {load other : Load} {asked also : Query}
     → AreInput o d q load asked → AreInput o d q other also → (load ≡ other) × (asked ≡ also)
-AreInput-unique {load = load} {other = other} axioms_total facts_total one two =
+AreInput-unique {load = load} {other = other} one two =
     let first = same_first one two.is_ontology in
     let then = IsData-unique (data_after one two.is_ontology) two.is_data in
     let last = IsQuery-unique (query_after one two.is_ontology two.is_data) two.is_query in
     let frozen = subst (λ m. IsFrozen m load.names one.ranks) last.1 one.is_frozen in
-    let same = frozen_unique two.met load.names other.names one.ranks two.ranks frozen two.is_frozen in
+    let names = IsFrozen-same_names two.met load.names other.names one.ranks two.ranks frozen two.is_frozen in
+    let ranks = IsFrozen-same_ranks two.met load.names other.names one.ranks two.ranks frozen two.is_frozen in
     let axioms = subst (λ a. IsSetOf axiom_cmp load.axioms (map (renamed_axiom (slice_index two.ranks)) a)) first.0
-    (subst (λ r. IsSetOf axiom_cmp load.axioms (map (renamed_axiom (slice_index r)) one.axioms_read)) same.1 one.is_axioms) in
+    (subst (λ r. IsSetOf axiom_cmp load.axioms (map (renamed_axiom (slice_index r)) one.axioms_read)) ranks one.is_axioms) in
     let facts = subst (λ a. IsSetOf fact_cmp load.facts (map (renamed_fact (slice_index two.ranks)) a)) then.0
-    (subst (λ r. IsSetOf fact_cmp load.facts (map (renamed_fact (slice_index r)) one.facts_read)) same.1 one.is_facts) in (
-      same_load load other same.0 (set_unique axiom_cmp axioms_total _ _ _ axioms two.is_axioms) (set_unique fact_cmp facts_total _ _ _ facts two.is_facts)
+    (subst (λ r. IsSetOf fact_cmp load.facts (map (renamed_fact (slice_index r)) one.facts_read)) ranks one.is_facts) in (
+      same_load load other names (IsSetOf-unique axioms_linear _ _ _ axioms two.is_axioms) (IsSetOf-unique facts_linear _ _ _ facts two.is_facts)
           (one.none_skipped ∙ sym two.none_skipped) (one.nothing_is ∙ sym two.nothing_is),
-      one.is_asked ∙ ap (λ r. renamed_query (slice_index r) one.query_read) same.1 ∙ ap (renamed_query (slice_index two.ranks)) last.0 ∙ sym two.is_asked,
+      one.is_asked ∙ ap (λ r. renamed_query (slice_index r) one.query_read) ranks ∙ ap (renamed_query (slice_index two.ranks)) last.0 ∙ sym two.is_asked,
     )
 
 pub pair_cmp-equal : (x y : ℕ × ℕ) → pair_cmp x y ≡ Equal → x ≡ y
@@ -186,5 +188,5 @@ placed_later n m pairs more =
     All-weaker (λ (p : ℕ × ℕ). (p.0 < n) × (p.1 < n)) (λ p. (p.0 < m) × (p.1 < m)) (λ p h. (omega (arith, h.0), omega (arith, h.1))) pairs
 
 -- a set of names is as long as the keys that hold it
-pub fits_from_keys : {A : Type 0} (f : A → Text) (keys : List A) (names : List Text) → map f keys ≡ names → length keys ≤ MAX_NAMES → length names ≤ MAX_NAMES
+pub fits_from_keys : {A : Type 0} (f : A → Text) (keys : List A) (names : List Text) → map f keys ≡ names → length keys ≤ max_names → length names ≤ max_names
 fits_from_keys f keys names is fits = omega (arith, ap length (sym is), length-map keys f)

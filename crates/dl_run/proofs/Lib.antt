@@ -10,7 +10,6 @@ pub mod AnswerLemmas
 pub mod ScanLemmas
 pub mod LineLemmas
 pub mod DataLemmas
-pub mod UniqueLemmas
 pub mod CommandLemmas
 pub mod TokenLemmas
 pub mod OntologyLemmas

@@ -9,6 +9,10 @@ use Rattle.dl_run.specs.declared.status.Status.{Status}
 use Rattle.dl_run.specs.declared.status.Status.TheVariants.{Done, Usage, Refused}
 use Rattle.dl_run.specs.Texts.{usage_text, not_built_text}
 
+-- the words have some written form
+abbrev pub HasSomeForm : List (List ℕ) → Type 0
+HasSomeForm words = (form : Form) × HasForm words form
+
 -- the words have no written form
 abbrev pub HasNoForm : List (List ℕ) → Type 0
 HasNoForm words = (form : Form) → HasForm words form → ⊥

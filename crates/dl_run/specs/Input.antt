@@ -1,6 +1,7 @@
 -- What the files of the command `answer` give: the names, the load and the query.
 use Rattle.std.specs.Prelude.{◌≡◌, ℕ, ◌≤◌, false, List, [], length, map, slice_index, Option, None}
-use Rattle.dl_names.specs.NameList.{Text, has_name}
+use Rattle.dl_io.specs.Files.{max_bytes}
+use Rattle.dl_names.specs.NameList.{Text, has_name, max_names}
 use Rattle.dl_names.specs.Frozen.{IsFrozen}
 use Rattle.dl_terms.specs.Order.{axiom_cmp, fact_cmp}
 use Rattle.dl_terms.specs.Sets.{IsSetOf}
@@ -12,13 +13,6 @@ use Rattle.dl_run.specs.Iris.{owl_nothing}
 use Rattle.dl_run.specs.Ontology.{IsOntology}
 use Rattle.dl_run.specs.Data.{IsData}
 use Rattle.dl_run.specs.Queries.{IsQuery}
-
--- the longest file, in bytes, and the most names of a run
-abbrev pub max_bytes : ℕ
-max_bytes = 268435456
-
-abbrev pub max_names : ℕ
-max_names = 4000000
 
 -- the names in byte order, the sets of axioms and facts over their numbers, the number of skipped triples, and that of owl:Nothing
 pub record Load : Type 0 where

@@ -1,4 +1,4 @@
--- The IRIs of names.
+-- The IRIs of names: an IRIREF of RDF 1.1 N-Triples without escapes. That some names are reserved is this project's own.
 use Rattle.std.specs.Prelude.{ℕ, Bool, not, ◌&&◌, nat_lt, ◌==◌, List, [], ◌∷◌, codes, IsTrue, IsUtf8, nat_eq}
 use Rattle.std.specs.List.{list_any, list_all, starts_with}
 
@@ -17,6 +17,7 @@ reserved_namespaces =
     codes "http://www.w3.org/2002/07/owl#" ∷ codes "http://www.w3.org/1999/02/22-rdf-syntax-ns#"
     ∷ codes "http://www.w3.org/2000/01/rdf-schema#" ∷ codes "http://www.w3.org/2001/XMLSchema#" ∷ []
 
+-- the name begins with one of these namespaces
 abbrev pub is_reserved : List ℕ → Bool
 is_reserved text = list_any (λ namespace. starts_with nat_eq text namespace) reserved_namespaces
 

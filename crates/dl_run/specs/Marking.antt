@@ -2,6 +2,7 @@
 use Rattle.std.specs.Prelude.{ℕ, ◌≡◌, ◌+◌, ◌⊎◌, Bool, true, false, not, List, length, slice_index_or}
 use Rattle.std.specs.List.{Contains, count_by}
 
+-- the class is marked
 abbrev pub IsMarked : List Bool → ℕ → Type 0
 IsMarked marks c = slice_index_or marks c false ≡ true
 

@@ -1,4 +1,4 @@
--- The queries that are read so far: one class atom, whose variable is the head.
+-- The queries that are read so far: one class atom, whose variable is the head. Their grammar is this project's own.
 use Rattle.std.specs.Prelude.{◌≡◌, ◌≢◌, ℕ, Bool, ◌&&◌, ◌||◌, nat_le, ◌==◌, List, [], ◌∷◌, codes, IsTrue}
 use Rattle.std.specs.List.{list_all}
 use Rattle.dl_names.specs.NameList.{Text}
@@ -10,6 +10,7 @@ use Rattle.dl_run.specs.Tokens.{trimmed, WordThen, NameThen}
 abbrev pub is_variable_byte : ℕ → Bool
 is_variable_byte b = nat_le 97 b && nat_le b 122 || nat_le 65 b && nat_le b 90 || nat_le 48 b && nat_le b 57 || b == 95
 
+-- the name of a variable, behind its '?'
 pub record IsVariable (name : Text) : Type 0 where
   pub some : name ≢ []
   pub characters : IsTrue (list_all is_variable_byte name)

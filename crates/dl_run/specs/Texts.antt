@@ -1,4 +1,4 @@
--- The texts that are printed in place of an output.
+-- The texts that are printed in place of an output; they are this project's own.
 use Rattle.std.specs.Prelude.{ℕ, List, [], ◌∷◌, ◌++◌, codes}
 
 -- a text and a line feed

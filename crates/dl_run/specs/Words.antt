@@ -1,4 +1,4 @@
--- The written forms of the words after the program's name.
+-- The written forms of the words after the program's name; they are this project's own.
 use Rattle.std.specs.Prelude.{ℕ, ◌≢◌, List, [], ◌∷◌, codes}
 
 -- how many answers `answer` prints at most, where no option says otherwise

@@ -1,13 +1,9 @@
-// The command `answer`: from the bytes of three files to its output.
-ghost use Rattle.std.specs.Prelude.{◌≡◌, ◌<◌, ◌≤◌, ℕ, List, length, IfOk, OnOk, Err, string_bytes};
+// What the files of `answer` ask, and the output for it.
+ghost use Rattle.std.specs.Prelude.{◌<◌, length, IfOk, string_bytes};
 ghost use Rattle.std.specs.List.{All};
-ghost use Rattle.dl_io.specs.declared.whole.TheConstants.{MAX_BYTES};
-ghost use Rattle.dl_terms.specs.declared.query.Query.{Query};
 ghost use Rattle.dl_run.specs.Asked.{load_of};
-ghost use Rattle.dl_run.specs.Input.{Load, AreInput};
 ghost use Rattle.dl_run.specs.Members.{members_of};
-ghost use Rattle.dl_run.specs.Defined.{IsNoInput, AnswerPrints, AnswerText};
-ghost use Rattle.dl_run.specs.declared.fault.Fault.TheVariants.{NotBuilt};
+ghost use Rattle.dl_run.specs.Defined.{AnswerText};
 ghost use Rattle.dl_run.specs.declared.status.Status.{Status};
 
 use crate::fault::Fault;
@@ -26,8 +22,7 @@ pub(crate) struct Asked {
     pub facts: Vec<(u32, u32)>,
     pub class: u32,
     ghost class_named: { class < length names },
-    ghost inclusions_named: {
-        All (λ e. (e.0 < length names) × (e.1 < length names)) inclusions.items },
+    ghost inclusions_named: { All (λ e. (e.0 < length names) × (e.1 < length names)) inclusions.items },
     ghost facts_named: { All (λ f. (f.0 < length names) × (f.1 < length names)) facts.items },
 }
 

@@ -1,5 +1,5 @@
 // Chains of inclusions between classes, which lead to one class.
-ghost use Rattle.std.specs.Prelude.{◌≡◌, ◌+◌, ◌<◌, ◌≤◌, ◌↔◌, ◌⊎◌, ◌∷◌, [], ℕ, length, map, replicate, false, IfOk, OnOk};
+ghost use Rattle.std.specs.Prelude.{◌≡◌, ◌<◌, ◌↔◌, ℕ, length, map, replicate, false, IfOk, OnOk};
 ghost use Rattle.std.specs.List.{Contains, All};
 ghost use Rattle.std.specs.List.Sorted.{IsNonDecreasingBy};
 ghost use Rattle.dl_run.specs.Inclusions.{LeadsTo};

@@ -2,9 +2,7 @@
 ghost use Rattle.std.specs.Prelude.{◌≡◌, ◌≢◌, ◌≤◌, ◌⊎◌, ℕ, List, map, IfOk, IfSome, Err, string_bytes};
 ghost use Rattle.dl_io.specs.Count.{HasRisen};
 ghost use Rattle.dl_io.specs.Writing.{Gets, GetsPrefix};
-ghost use Rattle.dl_run.specs.Words as forms;
-ghost use Rattle.dl_run.specs.Words.{HasForm};
-ghost use Rattle.dl_run.specs.Defined.{HasNoForm, IsNoInput, AnswerOf, Prints};
+ghost use Rattle.dl_run.specs.Defined.{HasSomeForm, HasNoForm, IsNoInput, AnswerOf, Prints};
 ghost use Rattle.dl_run.specs.Ending.{Wrote, WrotePart, IsComplete, EndsAs};
 ghost use Rattle.dl_run.specs.Texts.{usage_text, read_fault_text, no_memory_text};
 ghost use Rattle.dl_run.specs.declared.status.Status.{Status};
@@ -71,8 +69,8 @@ fn written<S: Sink>(sink: &mut S, status: Status, text: &str) -> Status
     ensures all { result ≢ Status.WriteFault →
         (result ≡ status) × Gets (S.got sink.old) (S.got sink.new) text.now }
     ensures same { (result ≡ status) ⊎ (result ≡ Status.WriteFault) }
-    ensures prefix { (result ≡ status → ⊥) → GetsPrefix (S.got sink.old) (S.got sink.new) text.now }
-    ensures failed { (result ≡ status → ⊥) → HasRisen (S.faults sink.old) (S.faults sink.new) }
+    ensures prefix { result ≢ status → GetsPrefix (S.got sink.old) (S.got sink.new) text.now }
+    ensures failed { result ≢ status → HasRisen (S.faults sink.old) (S.faults sink.new) }
     ensures count { S.faults sink.old ≤ S.faults sink.new }
 {
     match write_all(sink, text.as_bytes()) {
@@ -81,8 +79,10 @@ fn written<S: Sink>(sink: &mut S, status: Status, text: &str) -> Status
     }
 }
 
-/// The command `answer`: the certain answers to a query over an ontology and facts, which are the names of files, or why there are none.
-/// It never answers `Usage`. It waits for nobody.
+/// The command `answer`: writes the certain answers to a query over an ontology and facts, or why there are none, and says how that
+/// ended. The three names are those of files, which are read whole, in the order of the words, before any is tested for its form.
+/// `limit` is the most answers that are written. `Usage` never comes, and `NoMemory` may come at any time. Where the library doesn't
+/// tell its files, nothing is said of the texts of `Done` and `Refused`. `WriteFault` overrides every other status.
 pub fn answer_command<L: Library, S: Sink>(
     alloc: Global,
     files: &mut L,
@@ -113,8 +113,7 @@ pub fn answer_command<L: Library, S: Sink>(
         (L.faults files.old) (L.faults files.new) (S.got sink.old) (S.got sink.new) }
     ensures usage { result ≡ Status.Usage → ⊥ }
 
-    ensures complete {
-        IsComplete (L.told files.old) (AnswerOf ontology.now facts.now query.now limit)
+    ensures complete { IsComplete (L.told files.old) (AnswerOf ontology.now facts.now query.now limit)
         (L.faults files.old) (L.faults files.new) (S.faults sink.old) (S.faults sink.new) result }
     ensures unchanged { L.told files.new ≡ L.told files.old }
     ensures reads { L.faults files.old ≤ L.faults files.new }
@@ -126,7 +125,8 @@ pub fn answer_command<L: Library, S: Sink>(
 }
 
 /// The program: the words after its name, the files and the output. It answers `Usage` exactly where the words have no written form,
-/// and then takes no memory; the text of the written forms is written. `WriteFault` overrides every other status.
+/// and then takes no memory; the text of the written forms is written. Where they have one, it ends as that command does.
+/// `WriteFault` overrides every other status.
 pub fn quest<L: Library, S: Sink>(
     alloc: Global,
     words: &[String],
@@ -153,12 +153,11 @@ pub fn quest<L: Library, S: Sink>(
         HasRisen (L.faults files.old) (L.faults files.new)
         × Gets (S.got sink.old) (S.got sink.new) read_fault_text }
     ensures no_memory { result ≡ Status.NoMemory →
-        ((form : forms.Form) × HasForm (map string_bytes words.now) form) ×
-        Gets (S.got sink.old) (S.got sink.new) no_memory_text }
+        HasSomeForm (map string_bytes words.now) × Gets (S.got sink.old) (S.got sink.new) no_memory_text }
     ensures write_fault { result ≡ Status.WriteFault →
         HasRisen (S.faults sink.old) (S.faults sink.new) }
     ensures part { result ≡ Status.WriteFault →
-        ((form : forms.Form) × HasForm (map string_bytes words.now) form) →
+        HasSomeForm (map string_bytes words.now) →
         WrotePart (L.told files.old) (Prints (map string_bytes words.now))
         (L.faults files.old) (L.faults files.new) (S.got sink.old) (S.got sink.new) }
 

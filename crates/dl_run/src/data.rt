@@ -3,8 +3,7 @@ ghost use Rattle.std.specs.Prelude.{◌≡◌, ◌<◌, ◌≤◌, ◌++◌, ℕ
 ghost use Rattle.std.specs.List.{All};
 ghost use Rattle.dl_terms.specs.declared.axiom.Fact.{Fact};
 ghost use Rattle.dl_terms.specs.declared.axiom.Fact.TheVariants.{Is};
-ghost use Rattle.dl_names.specs.NameList.{Text, added};
-ghost use Rattle.dl_names.specs.declared.set.TheConstants.{MAX_NAMES};
+ghost use Rattle.dl_names.specs.NameList.{Text, added, max_names};
 ghost use Rattle.dl_run.specs.Data.{IsData};
 ghost use Rattle.dl_run.specs.Lines.{LineThen, Reads};
 
@@ -34,7 +33,7 @@ pub(crate) fn read_data(
         (x ≡ map (λ p. Is p.0 p.1) v.items) × (after ≡ names.new)) }
     ensures not_built { (result ≡ Err Fault.NotBuilt) →
         (x : List Fact) (after : List Text) → IsData bytes.now names.old x after →
-        length after ≤ MAX_NAMES → ⊥ }
+        length after ≤ max_names → ⊥ }
     ensures places { IfOk result (λ v.
         All (λ p. (p.0 < length names.new) × (p.1 < length names.new)) v.items) }
 {
@@ -56,7 +55,7 @@ fn read_line<'a>(
         Reads bytes.now rest.now names.old names.new places.old.items places.new.items) }
     ensures not_built { (result ≡ Err Fault.NotBuilt) →
         (who class : Text) (rest : List ℕ) → LineThen bytes.now who class rest →
-        length (added (added names.old who) class) ≤ MAX_NAMES → ⊥ }
+        length (added (added names.old who) class) ≤ max_names → ⊥ }
     ensures shorter { IfOk result (λ rest. length rest.now < length bytes.now) }
 {
     let Some((who, class, rest)) = line_then(bytes) else {

@@ -5,7 +5,7 @@ ghost use Rattle.dl_run.specs.declared.fault.Fault.TheVariants.{NotBuilt, NoMemo
 ghost use Rattle.dl_run.specs.Faults.{fault_of};
 
 use dl_names::NameFault;
-use std::alloc::{AllocError, AllocFailed};
+use std::alloc::AllocFailed;
 
 /// Why a file gave no value.
 #[derive(Clone, Copy, Debug, PartialEq, Eq)]
@@ -24,14 +24,6 @@ impl From<NameFault> for Fault {
             NameFault::Full => Fault::NotBuilt,
             NameFault::NoMemory => Fault::NoMemory,
         }
-    }
-}
-
-impl From<AllocError> for Fault {
-    ghost from_gives = { λ _ made. made ≡ NoMemory };
-
-    fn from(_refused: AllocError) -> Fault {
-        Fault::NoMemory
     }
 }
 

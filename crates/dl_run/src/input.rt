@@ -1,7 +1,7 @@
 // What the three files of `answer` give.
-ghost use Rattle.std.specs.Prelude.{◌≡◌, ◌≤◌, ◌<◌, ℕ, List, true, length, IfOk, Err};
+ghost use Rattle.std.specs.Prelude.{◌≡◌, ◌≤◌, ◌<◌, true, length, IfOk, Err};
 ghost use Rattle.std.specs.List.{All};
-ghost use Rattle.dl_io.specs.declared.whole.TheConstants.{MAX_BYTES};
+ghost use Rattle.dl_io.specs.Files.{max_bytes};
 ghost use Rattle.dl_names.specs.NameList.{has_name};
 ghost use Rattle.dl_terms.specs.declared.query.Query.{Query};
 ghost use Rattle.dl_run.specs.Asked.{load_of};
@@ -30,9 +30,9 @@ pub(crate) fn input_of(
     facts: &[u8],
     query: &[u8],
 ) -> Result<Asked, Fault>
-    requires ontology_fits { length ontology.now ≤ MAX_BYTES }
-    requires facts_fits { length facts.now ≤ MAX_BYTES }
-    requires query_fits { length query.now ≤ MAX_BYTES }
+    requires ontology_fits { length ontology.now ≤ max_bytes }
+    requires facts_fits { length facts.now ≤ max_bytes }
+    requires query_fits { length query.now ≤ max_bytes }
     ensures ok { IfOk result (λ a. AreInput ontology.now facts.now query.now
         (load_of a.names a.inclusions.items a.facts.items) (members_of a.class)) }
     ensures only { IfOk result (λ a.
@@ -55,8 +55,7 @@ fn numbered(
     class: u32,
 ) -> Result<Asked, Fault>
     requires class_placed { class < length names }
-    requires inclusions_placed {
-        All (λ p. (p.0 < length names) × (p.1 < length names)) inclusions.items }
+    requires inclusions_placed { All (λ p. (p.0 < length names) × (p.1 < length names)) inclusions.items }
     requires facts_placed { All (λ p. (p.0 < length names) × (p.1 < length names)) facts.items }
     ensures ok { IfOk result (λ a.
         IsNumbered names inclusions.items facts.items class

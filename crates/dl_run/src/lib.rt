@@ -7,7 +7,6 @@ mod command;
 mod data;
 mod fault;
 mod input;
-mod limits;
 mod members;
 mod ontology;
 mod output;
@@ -21,5 +20,4 @@ mod texts;
 mod words;
 
 pub use command::{answer_command, quest, without_memory};
-pub use limits::DEFAULT_LIMIT;
 pub use status::Status;

@@ -1,7 +1,6 @@
 // Reading ontologies of class inclusions.
-ghost use Rattle.std.specs.Prelude.{◌≡◌, ◌≤◌, ◌<◌, ℕ, List, length, map, All, IfOk, codes};
-ghost use Rattle.dl_names.specs.NameList.{Text};
-ghost use Rattle.dl_names.specs.declared.set.TheConstants.{MAX_NAMES};
+ghost use Rattle.std.specs.Prelude.{◌≡◌, ◌≤◌, ◌<◌, ℕ, List, length, map, All, IfOk};
+ghost use Rattle.dl_names.specs.NameList.{Text, max_names};
 ghost use Rattle.dl_terms.specs.declared.axiom.Axiom.{Axiom};
 ghost use Rattle.dl_run.specs.Inclusions.{inclusion};
 ghost use Rattle.dl_run.specs.Ontology.{AxiomsThen, IsOntology};
@@ -26,7 +25,7 @@ pub(crate) fn read_ontology(
         (x ≡ map (λ p. inclusion p.0 p.1) v.items) × (after ≡ names.new)) }
     ensures not_built { (result ≡ Err Fault.NotBuilt) →
         (x : List Axiom) (after : List Text) → IsOntology bytes.now names.old x after →
-        length after ≤ MAX_NAMES → ⊥ }
+        length after ≤ max_names → ⊥ }
 
     ensures places { IfOk result (λ v.
         All (λ p. (p.0 < length names.new) × (p.1 < length names.new)) v.items) }
@@ -52,7 +51,7 @@ fn inclusions_then<'a>(
     ensures not_built { (result ≡ Err Fault.NotBuilt) →
         (axioms : List Axiom) (rest : List ℕ) (after : List Text) →
         AxiomsThen bytes.now names.old axioms rest after → NoAxiomNext rest →
-        length after ≤ MAX_NAMES → ⊥ }
+        length after ≤ max_names → ⊥ }
 {
     let mut inclusions = Vec::new(alloc);
     let mut rest = bytes;
@@ -70,7 +69,7 @@ fn classes_then<'a>(bytes: &'a [u8], names: &mut NameSet) -> Result<((u32, u32),
         ClassesThen bytes.now names.old found.0.0 found.0.1 found.1.now names.new) }
     ensures not_built { (result ≡ Err Fault.NotBuilt) →
         (sub sup : ℕ) (rest : List ℕ) (after : List Text) →
-        ClassesThen bytes.now names.old sub sup rest after → length after ≤ MAX_NAMES → ⊥ }
+        ClassesThen bytes.now names.old sub sup rest after → length after ≤ max_names → ⊥ }
 {
     let subject = word_then(bytes, b"(")?;
     let (sub, object) = place_of_next(subject, names)?;

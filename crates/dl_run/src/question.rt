@@ -1,8 +1,7 @@
 // Reading queries for the members of a class.
 ghost use Rattle.std.specs.Prelude.{◌≡◌, ◌≤◌, ◌<◌, ◌∷◌, ℕ, List, length, not, position, IfOk, IfErr};
 ghost use Rattle.std.specs.List.{position_or_len};
-ghost use Rattle.dl_names.specs.NameList.{Text};
-ghost use Rattle.dl_names.specs.declared.set.TheConstants.{MAX_NAMES};
+ghost use Rattle.dl_names.specs.NameList.{Text, max_names};
 ghost use Rattle.dl_terms.specs.declared.query.Query.{Query};
 ghost use Rattle.dl_run.specs.Members.{members_of};
 ghost use Rattle.dl_run.specs.Tokens.{WordThen};
@@ -21,7 +20,7 @@ pub(crate) fn read_query(bytes: &[u8], names: &mut NameSet) -> Result<u32, Fault
         (x ≡ members_of v) × (after ≡ names.new)) }
     ensures not_built { (result ≡ Err Fault.NotBuilt) →
         (x : Query) (after : List Text) → IsQuery bytes.now names.old x after →
-        length after ≤ MAX_NAMES → ⊥ }
+        length after ≤ max_names → ⊥ }
 
     ensures places { IfOk result (λ v. v < length names.new) }
 {

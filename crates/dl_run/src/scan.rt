@@ -1,8 +1,7 @@
 // Reading tokens from the front of bytes: words, and names in < and >, with white space before them.
 ghost use Rattle.std.specs.Prelude.{◌≡◌, ◌≤◌, ◌<◌, ◌∷◌, ◌++◌, ℕ, List, [], length, IfOk, IfErr, OnOk, OnErr, IfSome, IfNone, IsTrue, not, position};
 ghost use Rattle.std.specs.List.{list_all};
-ghost use Rattle.dl_names.specs.NameList.{Text};
-ghost use Rattle.dl_names.specs.declared.set.TheConstants.{MAX_NAMES};
+ghost use Rattle.dl_names.specs.NameList.{Text, max_names};
 ghost use Rattle.dl_run.specs.Iris.{is_iri_byte, is_reserved, IsName};
 ghost use Rattle.dl_run.specs.Tokens.{is_blank, trimmed, WordThen, NameThen};
 
@@ -85,7 +84,7 @@ pub(crate) fn place_of_next<'a>(
     ensures within { IfOk result (λ found. found.0 < length names.new) }
     ensures not_built { (result ≡ Err Fault.NotBuilt) →
         (place : ℕ) (rest : List ℕ) (after : List Text) →
-        NameThen bytes.now names.old place rest after → length after ≤ MAX_NAMES → ⊥ }
+        NameThen bytes.now names.old place rest after → length after ≤ max_names → ⊥ }
 {
     let Some((text, rest)) = name_then(bytes) else {
         return Err(Fault::NotBuilt);

@@ -4,7 +4,8 @@ ghost use Rattle.dl_run.specs.Words.{HasForm, IsPositional};
 ghost use Rattle.dl_run.specs.Defined.{HasNoForm};
 ghost use Rattle.dl_run.specs.Forms.{form_view};
 
-use crate::limits::DEFAULT_LIMIT;
+/// How many answers `answer` prints at most, where no option says otherwise.
+const DEFAULT_LIMIT: u64 = 10_000;
 
 /// The words of `answer`: the names of its files, and how many answers it prints at most.
 #[derive(Drop)]

@@ -1,6 +1,6 @@
 use Rattle.std.proofs.Common.{subst}
 use Rattle.std.proofs.lemmas.Result.{err_from_is_err_and}
-use Rattle.dl_names.specs.declared.set.TheConstants.{MAX_NAMES}
+use Rattle.dl_names.specs.NameList.{max_names}
 use Rattle.dl_run.proofs.DataLemmas.{Read, Read-next, IsData-read, IsData-unique, IsData-stops, some_bytes, no_bytes}
 use Rattle.dl_run.proofs.data.read_data.Goals as goal
 
@@ -14,7 +14,7 @@ returns-in_err-rest-clause-not_built c =
     rw p.1 (λ h x after is fits.
     let before = c.loop-rest.invariant.left x after is in
     let some = some_bytes c.loop-rest.rest.now c.is_empty.result c.is_empty.ensures c.loop-rest-test.true in
-    IsData-stops c.loop-rest.rest.now c.loop-rest.names before.0 after MAX_NAMES some (c.in_err-rest.ensures.not_built (cc (p.2, h))) before.1 fits)
+    IsData-stops c.loop-rest.rest.now c.loop-rest.names before.0 after max_names some (c.in_err-rest.ensures.not_built (cc (p.2, h))) before.1 fits)
 
 pub returns-clause-ok : goal.returns-clause-ok
 returns-clause-ok c =

@@ -7,7 +7,6 @@ use Rattle.dl_run.specs.Asked.{load_of}
 use Rattle.dl_run.specs.Members.{members_of}
 use Rattle.dl_run.specs.Numbered.{IsNumbered}
 use Rattle.dl_names.specs.NameList.{has_name}
-use Rattle.dl_terms.proofs.OrderLemmas.{axiom_cmp_total, fact_cmp_total}
 use Rattle.dl_run.specs.Iris.{owl_nothing}
 use Rattle.dl_run.proofs.InputLemmas.{input_from, AreInput-unique, met_first_fits, met_then_fits, data_after, query_after, IsData-grows, last_met, placed_later, fits_from_keys}
 use Rattle.dl_run.proofs.TokenLemmas.{NameThen-grows}
@@ -50,7 +49,7 @@ returns-clause-only c =
     (λ a. AreInput c.args.ontology.now c.args.facts.now c.args.query.now (load_of a.names a.inclusions.items a.facts.items) (members_of a.class))
     (λ a. (load : Load) (asked : Query) → AreInput c.args.ontology.now c.args.facts.now c.args.query.now load asked
     → (load ≡ load_of a.names a.inclusions.items a.facts.items) × (asked ≡ members_of a.class))
-    (λ a input load asked other. AreInput-unique axiom_cmp_total fact_cmp_total other input) (returns-clause-ok c)
+    (λ a input load asked other. AreInput-unique other input) (returns-clause-ok c)
 
 pub returns-clause-not_built : goal.returns-clause-not_built
 returns-clause-not_built c = λ is load asked input.

@@ -1,6 +1,6 @@
 use Rattle.std.proofs.Common.{◌<◌, codes, length, arith}
 use Rattle.std.proofs.lemmas.Result.{err_from_is_err_and}
-use Rattle.dl_names.specs.declared.set.TheConstants.{MAX_NAMES}
+use Rattle.dl_names.specs.NameList.{max_names}
 use Rattle.dl_run.proofs.TokenLemmas.{WordThen-shorter}
 use Rattle.dl_run.proofs.OntologyLemmas.{ClassesThen-shorter, ReadTo-none, ReadTo-all, ReadTo-more, ReadTo-refused}
 use Rattle.dl_run.proofs.ontology.inclusions_then.Goals as goal
@@ -11,7 +11,7 @@ loop-opened-init c = rw c.new-inclusions.ensures.items (ReadTo-none c.args.bytes
 pub returns-in_err-inclusion-clause-not_built : goal.returns-in_err-inclusion-clause-not_built
 returns-in_err-inclusion-clause-not_built c =
     let p = err_from_is_err_and c.from_residual.result c.from_residual.ensures.1 in
-    rw p.1 (λ h. ReadTo-refused c.loop-opened.invariant c.in-Some.opened.now c.in-Some.ensures.found MAX_NAMES (c.in_err-inclusion.ensures.not_built (cc (p.2, h))))
+    rw p.1 (λ h. ReadTo-refused c.loop-opened.invariant c.in-Some.opened.now c.in-Some.ensures.found max_names (c.in_err-inclusion.ensures.not_built (cc (p.2, h))))
 
 pub loop-opened-smaller : goal.loop-opened-smaller
 loop-opened-smaller c =
