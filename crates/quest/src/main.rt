@@ -3,8 +3,9 @@
 
 use dl_io::{FileLibrary, OutSink};
 use dl_run::{Status, quest, without_memory};
+use std::env::{self, Env};
+use std::io;
 use std::process::ExitCode;
-use std::{env, io};
 
 #[cfg(test)]
 mod tests;
@@ -24,10 +25,6 @@ fn main(rt: HostRuntime) -> ExitCode {
 }
 
 /// The words after the program's name.
-fn words(rt: &HostRuntime) -> io::Result<Vec<String>> {
-    let mut words = Vec::new(rt.alloc());
-    for word in env::args(rt)?.skip(1) {
-        words.push(word)?;
-    }
-    Ok(words)
+fn words(rt: &(impl Env + AllocGlobal)) -> io::Result<Vec<String>> {
+    Ok(env::args(rt)?.skip(1).collect(rt.alloc())?)
 }

@@ -121,6 +121,12 @@ const DATA_MISSING_BESIDE_NOT_BUILT: &[(&str, &str)] = &[
     ("query.q", "q(?x) :- <B>(?x)"),
 ];
 
+/// The same beside facts of a form that isn't read.
+const QUERY_MISSING_BESIDE_NOT_BUILT: &[(&str, &str)] = &[
+    ("ontology.ofn", "Ontology(SubClassOf(<A> <B>))"),
+    ("data.nt", "no triple\n"),
+];
+
 /// The number of a call that doesn't come.
 const NEVER: u64 = u64::MAX;
 
@@ -164,6 +170,43 @@ impl Sink for Pieces {
         let n = piece.len().min(self.most.max(1));
         self.sink.write(&piece[..n])
     }
+}
+
+/// Reads as its library does, and notes the name of each file that is begun.
+#[derive(Drop)]
+struct Noting {
+    files: SafeLibrary,
+    begun: String,
+}
+
+impl Library for Noting {
+    ghost told = { λ _. None };
+
+    ghost faults = { λ _. 0 };
+
+    fn read(&mut self, name: &str, from: u64, buf: &mut [u8]) -> Result<usize, Failed> {
+        if from == 0 {
+            // A name that isn't noted for want of memory is missed below.
+            let _ = self.begun.push_str(name);
+            let _ = self.begun.push_str(" ");
+        }
+        self.files.read(name, from, buf)
+    }
+}
+
+#[test]
+fn files_are_read_once_in_the_order_of_the_words(rt: HostRuntime) -> Result<(), Fail> {
+    let files = files_of(rt.alloc(), SUBCLASS.files)?;
+    assert!(rt; names_differ(files.as_slice()));
+    let mut files = Noting {
+        files: SafeLibrary::new(files),
+        begun: String::new(rt.alloc()),
+    };
+    let mut sink = SafeSink::new(Vec::with_capacity(rt.alloc(), ROOM)?);
+    let status = run(rt.alloc(), SUBCLASS.words, &mut files, &mut sink)?;
+    assert_eq!(rt; status, Status::Done);
+    assert_eq!(rt; files.begun.as_str(), "ontology.ofn data.nt query.q ");
+    Ok(())
 }
 
 #[test]
@@ -267,7 +310,11 @@ fn with_faults(
 
 #[test]
 fn read_faults(rt: HostRuntime) -> Result<(), Fail> {
-    for files in [DATA_FILE_MISSING, DATA_MISSING_BESIDE_NOT_BUILT] {
+    for files in [
+        DATA_FILE_MISSING,
+        DATA_MISSING_BESIDE_NOT_BUILT,
+        QUERY_MISSING_BESIDE_NOT_BUILT,
+    ] {
         let (status, written) = with_faults(&rt, files, NEVER, NEVER, ROOM)?;
         assert_eq!(rt; status, Status::ReadFault, "a missing file");
         assert_eq!(rt;
