@@ -7,7 +7,8 @@ use std::io;
 /// What `run` takes.
 pub const WORDS: &str = "lex AXIOMS ROUNDS";
 
-/// Reads a text of so many axioms so many times, and prints counts. False where the words say nothing.
+/// Reads a text of so many axioms so many times, and prints counts. False where the words say nothing, or a
+/// number is out of range.
 pub fn run<R: AllocGlobal + Print>(rt: &R, words: &[String]) -> io::Result<bool> {
     let (Some(axioms), Some(rounds)) = (words.get(1), words.get(2)) else {
         return Ok(false);
@@ -40,7 +41,8 @@ fn count(bytes: &[u8]) -> u64 {
     tokens
 }
 
-// A text of class inclusions, two of three with a role.
+// A text of axioms, a third of each kind: an inclusion in a class, an inclusion in the domain of a role, and
+// a fact of a role.
 fn text_of(alloc: Global, axioms: u32) -> Result<String, AllocError> {
     let mut text = String::new(alloc);
     for i in 0..axioms {

@@ -1,4 +1,4 @@
-//! Runs a base crate on an input that it makes, and prints counts. `bench/` times it from outside.
+// Runs a base crate on an input that it makes, and prints counts. `bench/` times it from outside.
 #![tactic(auto)]
 
 mod lex;

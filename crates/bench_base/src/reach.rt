@@ -2,14 +2,14 @@
 ghost use Rattle.std.specs.Prelude.{◌≡◌, ◌<◌, ◌≤◌, IfOk, IfSome, OnOk};
 ghost use Rattle.dl_reach.specs.Digraph.{EndsBelow};
 
-use dl_reach::Graph;
+use dl_reach::{Graph, MAX_NODES};
 use std::alloc::{AllocError, Global};
 use std::io;
 
-/// What `run` takes.
+/// What `run` takes. `NODES` is from 1 to `MAX_NODES`.
 pub const WORDS: &str = "reach graph|search|closure|classes tree|tangle|both NODES EXTRA";
 
-/// Runs what the words say, and prints counts. False where the words say nothing.
+/// Runs what the words say, and prints counts. False where the words say nothing, or a number is out of range.
 pub fn run<R: AllocGlobal + Print>(rt: &R, words: &[String]) -> io::Result<bool> {
     let (Some(what), Some(shape), Some(nodes), Some(extra)) = (
         words.get(1),
@@ -23,7 +23,7 @@ pub fn run<R: AllocGlobal + Print>(rt: &R, words: &[String]) -> io::Result<bool>
     else {
         return Ok(false);
     };
-    if nodes == 0 || nodes > 16384 {
+    if nodes == 0 || nodes > MAX_NODES {
         return Ok(false);
     }
     let Some(edges) = edges_of(rt.alloc(), shape.as_str(), nodes, extra)? else {
@@ -31,7 +31,7 @@ pub fn run<R: AllocGlobal + Print>(rt: &R, words: &[String]) -> io::Result<bool>
     };
     let graph = Graph::new(rt.alloc(), nodes, &edges).map_err(|_refused| AllocError)?;
     match what.as_str() {
-        "graph" => println!(rt; "edges {}", graph.edges().len())?,
+        "graph" => println!(rt; "edges {}", edges.len())?,
         "search" => println!(rt; "reached {}", search(rt.alloc(), &graph)?)?,
         "closure" => println!(rt; "reached {}", close(rt.alloc(), &graph)?)?,
         "classes" => println!(rt; "classes {}", classes(rt.alloc(), &graph)?)?,

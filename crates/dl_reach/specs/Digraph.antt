@@ -2,10 +2,15 @@
 use Rattle.std.specs.Prelude.{ℕ, ◌<◌, List, Contains, All}
 use Rattle.dl_reach.specs.Chain.{Chain}
 
--- a directed graph: its nodes are the numbers below `nodes`, and each pair is an edge from its first node to its second
+-- a directed graph: its nodes are the numbers below `nodes`, and each pair is an edge from its first
+-- node to its second
 pub record Digraph : Type 0 where
   pub nodes : ℕ
   pub edges : List (ℕ × ℕ)
+
+-- the most nodes of a `Graph`: a bit for each two of them takes 32 MiB
+abbrev pub max_nodes : ℕ
+max_nodes = 16384
 
 -- an edge of the list leads from a to b
 abbrev pub Leads : List (ℕ × ℕ) → ℕ → ℕ → Type 0

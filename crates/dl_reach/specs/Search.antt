@@ -12,7 +12,9 @@ pub record AreMarked (seen : List Bool) (found : List ℕ) : Type 0 where
   pub as_many : length found ≡ count_by (λ mark. mark) seen
 
 -- these nodes are marked too, no others are, and the new ones stand after the found ones
-pub record Marks (nodes : List ℕ) (seen : List Bool) (found : List ℕ) (seen' : List Bool) (found' : List ℕ) : Type 0 where
+pub record Marks
+    (nodes : List ℕ) (seen : List Bool) (found : List ℕ) (seen' : List Bool) (found' : List ℕ)
+    : Type 0 where
   pub marked : AreMarked seen' found'
   pub kept : (node : ℕ) → IsMarked seen node → IsMarked seen' node
   pub all : All (λ node. IsMarked seen' node) nodes

@@ -1,7 +1,7 @@
 ghost use Rattle.std.specs.Prelude.{◌≡◌, ℕ, ◌+◌, ◌*◌, ◌<◌, ◌≤◌, ◌↔◌, ◌⊎◌, length, IfOk, IsTrue, Contains};
 ghost use Rattle.std.specs.List.Sorted.{IsNonDecreasingBy};
 ghost use Rattle.dl_reach.specs.Chain.{Chain};
-ghost use Rattle.dl_reach.specs.Digraph.{Digraph, IsEdge, Leads, EndsBelow, AreConnected};
+ghost use Rattle.dl_reach.specs.Digraph.{Digraph, max_nodes, IsEdge, Leads, EndsBelow, AreConnected};
 ghost use Rattle.dl_reach.specs.Matrix.{HasBit, HasChains};
 
 use crate::graph::Graph;
@@ -66,7 +66,7 @@ impl Closure {
     /// How many nodes there are: the nodes are the numbers below.
     pub fn nodes(&self) -> u32
         ensures count { result ≡ self.now.nodes }
-        ensures few { result ≤ 16384 }
+        ensures few { result ≤ max_nodes }
     {
         self.graph.nodes()
     }
@@ -79,7 +79,7 @@ fn chain_bits(
     width: usize,
     edges: &[(u32, u32)],
 ) -> Result<Vec<u64>, AllocError>
-    requires few { nodes ≤ 16384 }
+    requires few { nodes ≤ max_nodes }
     requires wide { nodes ≤ 64 * width }
     requires narrow { width ≤ 256 }
     requires ends { EndsBelow nodes edges.now }

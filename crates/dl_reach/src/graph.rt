@@ -1,7 +1,7 @@
 ghost use Rattle.std.specs.Prelude.{◌≡◌, ℕ, ◌+◌, ◌<◌, ◌≤◌, ◌↔◌, length, List, IfOk, OnOk, IsTrue, All, Contains};
 ghost use Rattle.std.specs.List.Sorted.{IsNonDecreasingBy, IsStrictlyIncreasing};
 ghost use Rattle.dl_reach.specs.Chain.{Chain};
-ghost use Rattle.dl_reach.specs.Digraph.{Digraph, IsEdge, EndsBelow};
+ghost use Rattle.dl_reach.specs.Digraph.{Digraph, max_nodes, IsEdge, EndsBelow};
 
 use crate::closure::Closure;
 use crate::memory::NoMemory;
@@ -9,7 +9,17 @@ use crate::search::{marked_nodes, reached};
 use std::alloc::{AllocError, Global};
 use std::marker::Model;
 
-/// A directed graph of at most 16,384 nodes, with its edges sorted by their first node.
+/// The most nodes that a graph may have.
+pub const MAX_NODES: u32 = 16_384;
+
+/// Whether both ends of each edge are nodes of a graph of so many.
+pub fn ends_below(nodes: u32, edges: &[(u32, u32)]) -> bool
+    ensures { IsTrue result ↔ EndsBelow nodes edges.now }
+{
+    edges.iter().all(|edge| edge.0 < nodes && edge.1 < nodes)
+}
+
+/// A directed graph of at most `MAX_NODES` nodes, with its edges sorted by their first node.
 #[derive(Drop)]
 pub struct Graph {
     nodes: u32,
@@ -22,7 +32,7 @@ impl Model for Graph {
     ghost view = { λ g. record { nodes = g.nodes; edges = g.edges.items } };
 
     ghost invariant = { λ g. record {
-      few : g.nodes ≤ 16384;
+      few : g.nodes ≤ max_nodes;
       ends : EndsBelow g.nodes g.edges.items;
       sorted : IsNonDecreasingBy (λ e. e.0) g.edges.items;
     } };
@@ -30,9 +40,9 @@ impl Model for Graph {
 
 impl Graph {
     /// The graph of these nodes and edges, whatever their order, and however often each edge comes.
-    /// Fails only for want of memory.
+    /// Fails only for want of memory. `ends_below` tests the edges.
     pub fn new(alloc: Global, nodes: u32, edges: &[(u32, u32)]) -> Result<Graph, NoMemory>
-        requires few { nodes ≤ 16384 }
+        requires few { nodes ≤ max_nodes }
         requires in_range { EndsBelow nodes edges.now }
         ensures nodes { IfOk result (λ g. g.nodes ≡ nodes) }
         ensures edges { IfOk result
@@ -70,7 +80,7 @@ impl Graph {
     }
 
     /// The edges, sorted by their first node.
-    pub fn edges(&self) -> &[(u32, u32)]
+    pub(crate) fn edges(&self) -> &[(u32, u32)]
         ensures edges { result.now ≡ self.now.edges }
         ensures sorted { IsNonDecreasingBy (λ e. e.0) result.now }
         ensures in_range { EndsBelow self.now.nodes result.now }
@@ -81,7 +91,7 @@ impl Graph {
     /// How many nodes there are: the nodes are the numbers below.
     pub fn nodes(&self) -> u32
         ensures count { result ≡ self.now.nodes }
-        ensures few { result ≤ 16384 }
+        ensures few { result ≤ max_nodes }
     {
         self.nodes
     }

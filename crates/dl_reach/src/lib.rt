@@ -1,4 +1,4 @@
-//! Reachability in a directed graph: which nodes chains of edges lead to.
+// Reachability in a directed graph: which nodes chains of edges lead to.
 #![tactic(auto)]
 
 mod closure;
@@ -10,7 +10,7 @@ mod order;
 mod search;
 
 pub use closure::Closure;
-pub use graph::Graph;
+pub use graph::{Graph, MAX_NODES, ends_below};
 pub use memory::NoMemory;
 
 #[cfg(test)]

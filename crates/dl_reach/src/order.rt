@@ -1,7 +1,7 @@
 // The order in which rows are united: Tarjan's depth-first search for strong components.
 ghost use Rattle.std.specs.Prelude.{◌≡◌, ℕ, ◌+◌, ◌^◌, ◌<◌, ◌≤◌, IfOk, All, vec_len};
 ghost use Rattle.std.specs.List.Sorted.{IsNonDecreasingBy};
-ghost use Rattle.dl_reach.specs.Digraph.{EndsBelow};
+ghost use Rattle.dl_reach.specs.Digraph.{max_nodes, EndsBelow};
 
 use crate::edges::{edges_from, place_of};
 use std::alloc::{AllocError, Global};
@@ -9,7 +9,7 @@ use std::alloc::{AllocError, Global};
 /// Pairs of nodes along which to unite rows, such that each row is whole after one pass. Nothing rests on
 /// that but speed, so it is not proved.
 pub fn order(alloc: Global, nodes: u32, edges: &[(u32, u32)]) -> Result<Vec<(u32, u32)>, AllocError>
-    requires few { nodes ≤ 16384 }
+    requires few { nodes ≤ max_nodes }
     requires ends { EndsBelow nodes edges.now }
     requires sorted { IsNonDecreasingBy (λ e. e.0) edges.now }
     ensures { IfOk result (λ pairs. EndsBelow nodes pairs.items) }
@@ -40,7 +40,7 @@ struct Search {
     path: Vec<u32>,
     // the pairs so far
     pairs: Vec<(u32, u32)>,
-    ghost few: { nodes ≤ 16384 },
+    ghost few: { nodes ≤ max_nodes },
     ghost next_len: { vec_len next ≡ nodes },
     ghost places_len: { vec_len places ≡ nodes },
     ghost lowest_len: { vec_len lowest ≡ nodes },
@@ -54,7 +54,7 @@ const CLOSED: usize = usize::MAX;
 
 impl Search {
     fn new(alloc: Global, nodes: u32) -> Result<Search, AllocError>
-        requires { nodes ≤ 16384 }
+        requires { nodes ≤ max_nodes }
         ensures { IfOk result (λ search. search.nodes ≡ nodes) }
     {
         Ok(Search {
@@ -149,24 +149,35 @@ impl Search {
         Ok(())
     }
 
-    // Closes the component of the pending nodes from a place on: first the edges of its nodes, the last reached
-    // first, which makes the row of its first node whole, and then each node with a lower one.
+    // Closes the component of the pending nodes from a place on: first the edges of its nodes, which make the
+    // row of its first node whole, and then each node with a lower one.
     fn close(&mut self, place: usize, edges: &[(u32, u32)]) -> Result<(), AllocError>
         requires ends { EndsBelow self.old.nodes edges.now }
         requires sorted { IsNonDecreasingBy (λ e. e.0) edges.now }
         ensures { self.new.nodes ≡ self.old.nodes }
     {
         let start = place.saturating_sub(1).min(self.pending.len());
-        for i in (start..self.pending.len()).rev() {
-            self.pairs
-                .extend_from_slice(edges_from(edges, self.pending[i]))?;
-        }
+        self.push_edges(start, edges)?;
         for i in start..self.pending.len() {
             let node = self.pending[i];
             self.pairs.push((node, self.lowest[node as usize]))?;
             self.places[node as usize] = CLOSED;
         }
         self.pending.truncate(start);
+        Ok(())
+    }
+
+    // Adds the edges of the pending nodes from an index on, those of the last reached first.
+    fn push_edges(&mut self, start: usize, edges: &[(u32, u32)]) -> Result<(), AllocError>
+        requires ends { EndsBelow self.old.nodes edges.now }
+        requires sorted { IsNonDecreasingBy (λ e. e.0) edges.now }
+        ensures nodes { self.new.nodes ≡ self.old.nodes }
+        ensures pending { self.new.pending ≡ self.old.pending }
+    {
+        for i in (start..self.pending.len()).rev() {
+            self.pairs
+                .extend_from_slice(edges_from(edges, self.pending[i]))?;
+        }
         Ok(())
     }
 }

@@ -2,7 +2,7 @@
 ghost use Rattle.std.specs.Prelude.{◌≡◌, ℕ, ◌+◌, ◌-◌, ◌^◌, ◌<◌, ◌≤◌, ◌↔◌, [], ◌∷◌, length, map, IfOk, OnOk, All, Contains};
 ghost use Rattle.std.specs.List.Sorted.{IsNonDecreasingBy, IsStrictlyIncreasing};
 ghost use Rattle.dl_reach.specs.Chain.{Chain};
-ghost use Rattle.dl_reach.specs.Digraph.{EndsBelow, Leads};
+ghost use Rattle.dl_reach.specs.Digraph.{max_nodes, EndsBelow, Leads};
 ghost use Rattle.dl_reach.specs.Search.{IsMarked, AreMarked, Marks};
 
 use crate::edges::edges_from;
@@ -17,7 +17,7 @@ pub fn reached(
 ) -> Result<Vec<bool>, AllocError>
     requires sorted { IsNonDecreasingBy (λ e. e.0) edges.now }
     requires ends { EndsBelow nodes edges.now }
-    requires few { nodes ≤ 16384 }
+    requires few { nodes ≤ max_nodes }
     requires in_range { from < nodes }
     ensures len { IfOk result (λ seen. length seen.items ≡ nodes) }
     ensures exact { IfOk result
@@ -66,7 +66,7 @@ fn mark(node: u32, seen: &mut [bool], found: &mut Vec<u32>) -> Result<(), AllocE
 
 /// The marked nodes, ascending.
 pub fn marked_nodes(alloc: Global, seen: &[bool]) -> Result<Vec<u32>, AllocError>
-    requires { length seen.now ≤ 16384 }
+    requires { length seen.now ≤ max_nodes }
     ensures ascending { IfOk result (λ nodes. IsStrictlyIncreasing nodes.items) }
     ensures exact { IfOk result
         (λ nodes. (node : ℕ) → Contains nodes.items node ↔ IsMarked seen.now node) }

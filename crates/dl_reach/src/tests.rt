@@ -2,12 +2,12 @@ ghost use Rattle.std.specs.Prelude.{◌≡◌, ◌≤◌, IfOk};
 
 use crate::matrix::{follow_all, set_bits, set_diagonal};
 use crate::order::order;
-use crate::{Graph, NoMemory};
+use crate::{Graph, MAX_NODES, NoMemory, ends_below};
 use std::alloc::{AllocError, Global};
 use std::process::Abort;
 use std::test::Fail;
 
-// A graph of fewer than 64 nodes, which a table gives.
+// A graph of at most 64 nodes, which a table gives.
 fn graph_of(
     rt: &impl Abort,
     alloc: Global,
@@ -17,7 +17,7 @@ fn graph_of(
     ensures { IfOk result (λ graph. graph.nodes ≤ 64) }
 {
     assert!(rt; nodes <= 64);
-    assert!(rt; edges.iter().all(|edge| edge.0 < nodes && edge.1 < nodes));
+    assert!(rt; ends_below(nodes, edges));
     Graph::new(alloc, nodes, edges)
 }
 
@@ -67,6 +67,14 @@ fn reaches_along_edges(rt: HostRuntime) -> Result<(), Fail> {
     assert_eq!(rt; closure.nodes(), 3);
     assert!(rt; closure.has(0, 2) && !closure.has(2, 0));
     assert_eq!(rt; closure.class_of(2), 2);
+    Ok(())
+}
+
+#[test]
+fn as_many_nodes_as_may_be(rt: HostRuntime) -> Result<(), Fail> {
+    let graph = Graph::new(rt.alloc(), MAX_NODES, &[(MAX_NODES - 1, 0)])?;
+    let found = graph.reach(rt.alloc(), MAX_NODES - 1)?;
+    assert_eq!(rt; found.as_slice(), [0, MAX_NODES - 1].as_slice());
     Ok(())
 }
 

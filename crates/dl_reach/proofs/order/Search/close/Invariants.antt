@@ -3,6 +3,3 @@ use Rattle.dl_reach.proofs.order.Search.close.Given as goal
 
 abbrev pub invariant-loop-i : goal.invariant-loop-i
 invariant-loop-i l = (l.self.nodes ≡ l.initial.self.nodes) × (vec_len l.self.pending ≡ vec_len l.initial.self.pending)
-
-abbrev pub invariant-loop-i-2 : goal.invariant-loop-i-2
-invariant-loop-i-2 l = (l.self.nodes ≡ l.initial.self.nodes) × (vec_len l.self.pending ≡ vec_len l.initial.self.pending)
