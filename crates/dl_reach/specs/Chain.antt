@@ -1,4 +1,5 @@
--- Chains of steps: the reflexive and transitive closure of a relation, over any relation and any type.
+-- Chains of steps: the reflexive and transitive closure of a relation, over any relation and any
+-- type.
 use Rattle.std.specs.Prelude.{◌≡◌, ℕ}
 use Rattle.std.proofs.Common.{zero, suc}
 

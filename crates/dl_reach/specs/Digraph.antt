@@ -2,8 +2,8 @@
 use Rattle.std.specs.Prelude.{ℕ, ◌<◌, List, Contains, All}
 use Rattle.dl_reach.specs.Chain.{Chain}
 
--- a directed graph: its nodes are the numbers below `nodes`, and each pair is an edge from its first
--- node to its second
+-- a directed graph: its nodes are the numbers below `nodes`, and each pair is an edge from its
+-- first node to its second
 pub record Digraph : Type 0 where
   pub nodes : ℕ
   pub edges : List (ℕ × ℕ)

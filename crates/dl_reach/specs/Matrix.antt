@@ -1,5 +1,5 @@
--- Bit matrices in one list of words: each row has `width` words of 64 bits, the lowest bit first, and
--- the rows follow one another.
+-- Bit matrices in one list of words: each row has `width` words of 64 bits, the lowest bit first,
+-- and the rows follow one another.
 use Rattle.std.specs.Prelude.{◌≡◌, ℕ, ◌+◌, ◌*◌, ◌/◌, ◌%◌, ◌<◌, ◌≤◌, ◌↔◌, List, All, length, slice_index}
 use Rattle.std.specs.Int.{bit_at}
 use Rattle.dl_reach.specs.Chain.{Chain}

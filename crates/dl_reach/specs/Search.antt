@@ -1,4 +1,5 @@
--- The state of a search: which nodes are marked, and the nodes found so far in the order of finding.
+-- The state of a search: which nodes are marked, and the nodes found so far in the order of
+-- finding.
 use Rattle.std.specs.Prelude.{◌≡◌, ℕ, ◌⊎◌, Bool, true, false, List, length, take, All, Contains, count_by, slice_index_or}
 
 -- the node is marked

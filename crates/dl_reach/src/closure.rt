@@ -108,7 +108,7 @@ fn fill(words: &mut [u64], width: usize, nodes: u32, edges: &[(u32, u32)], order
     close(words, width, edges);
 }
 
-// The least node with bits both ways.
+// The least node with bits both ways. Words of the node's row with no bit are passed over at once.
 fn least_connected(words: &[u64], width: usize, node: u32) -> u32
     requires rows { (node + 1) * width ≤ length words.now }
     requires columns { node < 64 * width }
@@ -118,11 +118,15 @@ fn least_connected(words: &[u64], width: usize, node: u32) -> u32
     ensures least { (other : ℕ) → other < result
         → HasBit words.now width node other → HasBit words.now width other node → ⊥ }
 {
-    for other in 0..node {
-        if has_bit(words, width, node as usize, other as usize)
-            && has_bit(words, width, other as usize, node as usize)
-        {
-            return other;
+    let row = node as usize;
+    let mut other = 0;
+    while other < row {
+        if words[row * width + other / 64] == 0 {
+            other = (other / 64 + 1) * 64;
+        } else if has_bit(words, width, row, other) && has_bit(words, width, other, row) {
+            return other as u32;
+        } else {
+            other += 1;
         }
     }
     node
