@@ -16,7 +16,9 @@ pub record Adds (old : List Interval) (next : Interval) (new : List Interval) : 
 
 -- the list holds the numbers of the first i intervals of one list and of the first j of the other, and begins
 -- no later than what is left of the two
-pub record Merges (left : List Interval) (i : ℕ) (right : List Interval) (j : ℕ) (is : List Interval) : Type 0 where
+pub record Merges
+    (left : List Interval) (i : ℕ) (right : List Interval) (j : ℕ) (is : List Interval)
+    : Type 0 where
   pub sorted : IsIntervalList is
   pub small : EndBelow (2 ^ 31) is
   pub before_left : (d : Interval) → i < length left → BeginBy (slice_index_or left i d).0 is
@@ -26,4 +28,5 @@ pub record Merges (left : List Interval) (i : ℕ) (right : List Interval) (j : 
 -- there is an interval at i of the one list, and that at j of the other, if there is one, doesn't begin before it
 pub record IsNext (xs : List Interval) (i : ℕ) (ys : List Interval) (j : ℕ) : Type 0 where
   pub inside : i < length xs
-  pub first : (d e : Interval) → j < length ys → (slice_index_or xs i d).0 ≤ (slice_index_or ys j e).0
+  pub first : (d e : Interval) → j < length ys
+      → (slice_index_or xs i d).0 ≤ (slice_index_or ys j e).0
