@@ -1,4 +1,4 @@
--- The characters of bytes in UTF-8, and the classes of characters that the grammar of functional syntax names.
+-- The characters of bytes in UTF-8, and the classes of characters that the grammar names.
 use Rattle.std.specs.Prelude.{◌≡◌, ℕ, ◌+◌, ◌≤◌, Bool, true, not, ◌&&◌, ◌||◌, ◌==◌, nat_lt, List, [], ◌∷◌, ◌++◌, drop, length, All, codes}
 use Rattle.std.specs.List.{AllPass, list_any}
 use Rattle.std.specs.Char.{IsScalar, encode_utf8, is_ascii_alphanumeric}
@@ -41,7 +41,8 @@ is_among c cs = list_any (λ d. c == d) cs
 
 -- a character of an IRI: past the space, and none of < > " { } | ^ ` \
 abbrev pub is_iri_character : ℕ → Bool
-is_iri_character c = nat_lt 32 c && not (is_among c (60 ∷ 62 ∷ 34 ∷ 123 ∷ 125 ∷ 124 ∷ 94 ∷ 96 ∷ 92 ∷ []))
+is_iri_character c =
+    nat_lt 32 c && not (is_among c (60 ∷ 62 ∷ 34 ∷ 123 ∷ 125 ∷ 124 ∷ 94 ∷ 96 ∷ 92 ∷ []))
 
 -- a character of a run: one of an IRI, and none of ( ) = @ #
 abbrev pub is_run_character : ℕ → Bool

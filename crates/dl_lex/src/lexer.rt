@@ -7,7 +7,7 @@ use crate::scan::{skip, token_at};
 use crate::token::{LexFault, Token};
 use std::marker::Model;
 
-/// Reads the tokens of functional syntax one after another. Contracts see it as the bytes and the place up to which
+/// Reads the tokens one after another. Contracts see it as the bytes and the place up to which
 /// they are read.
 #[derive(Drop)]
 pub struct Lexer<'a> {

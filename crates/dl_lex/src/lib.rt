@@ -1,4 +1,4 @@
-// The tokens of OWL 2 functional-style syntax.
+// The tokens of this project's profile of the OWL 2 functional-style syntax.
 #![tactic(auto)]
 
 mod characters;

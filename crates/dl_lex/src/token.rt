@@ -29,7 +29,8 @@ pub enum TokenKind {
     End,
 }
 
-/// A token and its place: the bytes from `start` up to and without `end`.
+/// A token and its place: `start` is its first byte, counted from 0, and `end` the place after its last byte. The whole
+/// token stands between them, with the `<` and `>` of an IRI, the quotes of a string and the `@` of a tag.
 #[derive(Clone, Copy, Debug, PartialEq, Eq)]
 pub struct Token {
     pub kind: TokenKind,
@@ -37,7 +38,7 @@ pub struct Token {
     pub end: usize,
 }
 
-/// No token begins at byte `at`.
+/// No token begins at byte `at`, counted from 0.
 #[derive(Clone, Copy, Debug, PartialEq, Eq)]
 pub struct LexFault {
     pub at: usize,
