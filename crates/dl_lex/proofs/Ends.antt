@@ -1,9 +1,9 @@
 -- Where a token of each form ends.
-use Rattle.std.proofs.Common.{◌≡◌, ℕ, ◌+◌, ◌<◌, Some, List, [], length, get_or, refl, subst, arith}
+use Rattle.std.proofs.Common.{◌≡◌, ℕ, ◌+◌, ◌<◌, List, [], length, get_or, refl, subst, arith}
 use Rattle.std.specs.List.{slice_range}
 use Rattle.dl_lex.specs.declared.token.TokenKind.{TokenKind}
 use Rattle.dl_lex.specs.Characters.{IsLongestRun, is_iri_character, is_lang_character, is_run_character}
-use Rattle.dl_lex.specs.Grammar.{IsIri, IsLang, IsRun, run_kind}
+use Rattle.dl_lex.specs.Grammar.{IsIri, IsLang, IsRunText, IsRun}
 use Rattle.dl_lex.proofs.Runs.{none_at_ascii, one_run}
 use Rattle.dl_lex.proofs.Tokens.{stands_byte}
 
@@ -29,7 +29,7 @@ no_lang_at bytes i l j t =
     let some = t.some in
     omega arith
 
-pub no_run_at : (bytes : List ℕ) (i e : ℕ) → IsLongestRun is_run_character bytes i e → ((kind : TokenKind) → i < e → run_kind (slice_range bytes i e) ≡ Some kind → ⊥) → (kind : TokenKind) (j : ℕ) → IsRun bytes kind i j → ⊥
+pub no_run_at : (bytes : List ℕ) (i e : ℕ) → IsLongestRun is_run_character bytes i e → ((kind : TokenKind) → i < e → IsRunText (slice_range bytes i e) kind → ⊥) → (kind : TokenKind) (j : ℕ) → IsRun bytes kind i j → ⊥
 no_run_at bytes i e l none kind j t =
     let same : j ≡ e = one_run is_run_character bytes i j e t.run l in
-    none kind (let some = t.some in omega arith) (subst (λ k. run_kind (slice_range bytes i k) ≡ Some kind) same t.is)
+    none kind (let some = t.some in omega arith) (subst (λ k. IsRunText (slice_range bytes i k) kind) same t.is)

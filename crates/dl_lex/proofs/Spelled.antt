@@ -1,14 +1,19 @@
--- Each keyword is spelled by its text, and by no other.
-use Rattle.std.proofs.Common.{◌≡◌, ℕ, Bool, true, false, Option, Some, List, [], ◌∷◌, refl, subst, cond}
+-- A search in the table of keywords finds the keyword that is written as a text.
+use Rattle.std.proofs.Common.{◌≡◌, ℕ, Bool, true, false, Option, Some, None, MatchOption, List, [], ◌∷◌, refl, sym, ap, ◌∙◌, subst, cond}
 use Rattle.std.proofs.lemmas.Slice.Eq.{bytes_eq-Decides}
 use Rattle.std.specs.List.{find}
 use Rattle.std.specs.Str.{bytes_eq}
 use Rattle.dl_lex.specs.declared.keyword.Keyword.{Keyword}
 use Rattle.dl_lex.specs.declared.keyword.Keyword.TheVariants.{SubClassOf, ObjectSomeValuesFrom, ClassAssertion, ObjectPropertyAssertion, Declaration, Class, NamedIndividual, ObjectInverseOf, ObjectProperty, SubObjectPropertyOf, ObjectPropertyDomain, ObjectPropertyRange, AnnotationAssertion, Annotation, ObjectIntersectionOf, ObjectComplementOf, EquivalentClasses, DisjointClasses, InverseObjectProperties, EquivalentObjectProperties, DisjointObjectProperties, SymmetricObjectProperty, AsymmetricObjectProperty, IrreflexiveObjectProperty, DifferentIndividuals, AnnotationProperty, Datatype, DataProperty, SubAnnotationPropertyOf, AnnotationPropertyDomain, AnnotationPropertyRange, Prefix, Ontology, Import, DataPropertyAssertion, DataSomeValuesFrom, SubDataPropertyOf, EquivalentDataProperties, DisjointDataProperties, DataPropertyDomain, DataPropertyRange, ReflexiveObjectProperty, DatatypeDefinition, FunctionalObjectProperty, InverseFunctionalObjectProperty, TransitiveObjectProperty, FunctionalDataProperty, DisjointUnion, HasKey, SameIndividual, NegativeObjectPropertyAssertion, NegativeDataPropertyAssertion, ObjectPropertyChain, ObjectUnionOf, ObjectOneOf, ObjectAllValuesFrom, ObjectHasValue, ObjectHasSelf, ObjectMinCardinality, ObjectMaxCardinality, ObjectExactCardinality, DataAllValuesFrom, DataHasValue, DataMinCardinality, DataMaxCardinality, DataExactCardinality, DataIntersectionOf, DataUnionOf, DataComplementOf, DataOneOf, DatatypeRestriction}
 use Rattle.dl_lex.specs.declared.keyword.TheConstants.{KEYWORDS}
-use Rattle.dl_lex.specs.Keywords.{keyword_text, keyword_of}
+use Rattle.dl_lex.specs.Keywords.{keyword_text, NoKeyword}
 
-pub keyword_spelled : (k : Keyword) → keyword_of (keyword_text k) ≡ Some k
+-- the keyword that a search for a text finds in the table
+unfoldable pub keyword_of : List ℕ → Option Keyword
+keyword_of text = find (λ k. bytes_eq (keyword_text k) text) KEYWORDS
+
+-- it finds each keyword by its text
+keyword_spelled : (k : Keyword) → keyword_of (keyword_text k) ≡ Some k
 unfolding keyword_text keyword_of
 keyword_spelled SubClassOf = refl
 keyword_spelled ObjectSomeValuesFrom = refl
@@ -91,6 +96,24 @@ found_passes : {X : Type 0} (p : X → Bool) (xs : List X) (k : X) → find p xs
 found_passes p [] k e = cc
 found_passes p (x ∷ xs) k e = found_by p (p x) x k (find p xs) refl e (found_passes p xs k)
 
-pub keyword_alone : (text : List ℕ) (k : Keyword) → keyword_of text ≡ Some k → keyword_text k ≡ text
+-- it finds a keyword only by its text
+keyword_alone : (text : List ℕ) (k : Keyword) → keyword_of text ≡ Some k → keyword_text k ≡ text
 unfolding keyword_of
 keyword_alone text k e = (bytes_eq-Decides (keyword_text k) text).0 (found_passes (λ w. bytes_eq (keyword_text w) text) KEYWORDS k e)
+
+some_same : (j k : Keyword) → (let a : Option Keyword = Some j in a) ≡ (let b : Option Keyword = Some k in b) → j ≡ k
+some_same j k e = cc
+
+pub keyword_unique : (j k : Keyword) → keyword_text j ≡ keyword_text k → j ≡ k
+keyword_unique j k same = some_same j k (sym (keyword_spelled j) ∙ (ap keyword_of same ∙ keyword_spelled k))
+
+none_is_some : (k : Keyword) → (let o : Option Keyword = None in o) ≡ Some k → ⊥
+none_is_some k e = cc
+
+keyword_found_by : (text : List ℕ) (o : Option Keyword) → keyword_of text ≡ o → MatchOption o (NoKeyword text) (λ k. text ≡ keyword_text k)
+keyword_found_by text None e = λ k same. none_is_some k (sym e ∙ (ap keyword_of same ∙ keyword_spelled k))
+keyword_found_by text (Some k) e = sym (keyword_alone text k e)
+
+-- it finds the keyword that is written as the text, if one is
+pub keyword_found : (text : List ℕ) → MatchOption (keyword_of text) (NoKeyword text) (λ k. text ≡ keyword_text k)
+keyword_found text = keyword_found_by text (keyword_of text) refl

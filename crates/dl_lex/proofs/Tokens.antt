@@ -1,9 +1,8 @@
 -- Which tokens stand at a place, by the byte that stands there.
-use Rattle.std.proofs.Common.{◌≡◌, ◌≢◌, ℕ, ◌+◌, ◌<◌, ◌≤◌, ◌⊎◌, inl, inr, Bool, true, false, cond, eqb, Option, Some, None, List, [], ◌∷◌, length, get_or, drop, sym, ap, ◌∙◌, subst, arith}
-use Rattle.std.specs.List.{All, slice_range, list_any, list_all}
+use Rattle.std.proofs.Common.{◌≡◌, ◌≢◌, ℕ, ◌+◌, ◌<◌, ◌≤◌, ◌⊎◌, inl, inr, true, false, cond, eqb, Option, Some, None, MatchOption, List, [], ◌∷◌, length, get_or, drop, refl, sym, ap, ◌∙◌, subst, arith}
+use Rattle.std.specs.List.{All, slice_range}
 use Rattle.std.specs.Option.{option_map}
 use Rattle.std.proofs.Math.Utf8.{encodes}
-use Rattle.std.specs.Char.{is_ascii_digit}
 use Rattle.std.proofs.lemmas.Bool.{cases_lt}
 use Rattle.std.proofs.lemmas.Bool.Decides.{nat_tests}
 use Rattle.std.proofs.lemmas.List.{get_or-drop}
@@ -12,10 +11,10 @@ use Rattle.std.proofs.lemmas.Option.{slice_get_within, slice_get-get_or, get_or_
 use Rattle.dl_lex.specs.declared.token.TokenKind.{TokenKind}
 use Rattle.dl_lex.specs.declared.token.TokenKind.TheVariants.{Open, Close, Equals, Caret, Iri, Text, Lang, Node, Short, Number, Word, End}
 use Rattle.dl_lex.specs.Characters.{StandsAt, IsLongestRun, is_run_character, is_comment_character}
-use Rattle.dl_lex.specs.Grammar.{is_white_space, Skips, nothing, white_space, comment, IsIri, IsText, IsLang, IsRun, is_node, run_kind, IsTokenAt}
-use Rattle.dl_lex.specs.Keywords.{keyword_of}
+use Rattle.dl_lex.specs.Grammar.{is_white_space, Skips, nothing, white_space, comment, IsIri, IsText, IsLang, is_node, has_colon, is_number, IsRunText, node, short, number, word, IsRun, IsTokenAt}
+use Rattle.dl_lex.specs.Keywords.{keyword_text, NoKeyword}
 use Rattle.dl_lex.specs.declared.keyword.Keyword.{Keyword}
-use Rattle.dl_lex.specs.Scanning.{NoTokenAt, SkipsOne, IsRunByte}
+use Rattle.dl_lex.specs.Scanning.{NoTokenAt, SkipsOne, IsRunByte, NoRunText}
 use Rattle.dl_lex.proofs.Places.{ascii_character}
 use Rattle.dl_lex.proofs.Runs.{first_stands}
 
@@ -142,20 +141,12 @@ caret_bytes bytes i j s =
     let inside = s.in_range in
     (omega arith, sym (get_or-drop i bytes 1 0) ∙ ap (λ t. get_or t 1 0) s.is)
 
--- the form of what a run may be
-abbrev form_or_run : Option TokenKind → ℕ
-form_or_run None = 7
-form_or_run (Some kind) = form kind
-
-run_kind_form_by : (node short number : Bool) (keyword : Option Keyword) (kind : TokenKind) → cond node (Some Node) (cond short (Some Short) (cond number (Some Number) (option_map Word keyword))) ≡ Some kind → form kind ≡ 7
-run_kind_form_by true short number keyword kind e = sym (ap form_or_run e)
-run_kind_form_by false true number keyword kind e = sym (ap form_or_run e)
-run_kind_form_by false false true keyword kind e = sym (ap form_or_run e)
-run_kind_form_by false false false None kind e = sym (ap form_or_run e)
-run_kind_form_by false false false (Some keyword) kind e = sym (ap form_or_run e)
-
-run_kind_form : (text : List ℕ) (kind : TokenKind) → run_kind text ≡ Some kind → form kind ≡ 7
-run_kind_form text kind e = run_kind_form_by (is_node text) (list_any (λ c. eqb c 58) text) (list_all is_ascii_digit text) (keyword_of text) kind e
+-- what a run may be has the form of runs
+run_text_form : (text : List ℕ) (kind : TokenKind) → IsRunText text kind → form kind ≡ 7
+run_text_form text _ (node n) = refl
+run_text_form text _ (short n c) = refl
+run_text_form text _ (number n c d) = refl
+run_text_form text _ (word k n c d same) = refl
 
 token_of_run_by : (bytes : List ℕ) (kind : TokenKind) (i j : ℕ) → IsRun bytes kind i j → form kind ≡ 7 → IsTokenAt bytes kind i j
 token_of_run_by bytes Node i j r e = r
@@ -166,7 +157,7 @@ token_of_run_by bytes kind i j r e = absurd (omega arith)
 
 -- a run of a kind is a token of the kind
 pub token_of_run : (bytes : List ℕ) (kind : TokenKind) (i j : ℕ) → IsRun bytes kind i j → IsTokenAt bytes kind i j
-token_of_run bytes kind i j r = token_of_run_by bytes kind i j r (run_kind_form (slice_range bytes i j) kind r.is)
+token_of_run bytes kind i j r = token_of_run_by bytes kind i j r (run_text_form (slice_range bytes i j) kind r.is)
 
 -- a byte that begins no other form begins a run, if any
 pub run_byte : (b : ℕ) → IsRunByte b → byte_form b ≡ 7
@@ -180,5 +171,13 @@ run_byte b h =
     let no_lang' = h.no_lang in
     grind (arith, nat_tests)
 
-pub none_is_some : (kind : TokenKind) → (let o : Option TokenKind = None in o) ≡ Some kind → ⊥
-none_is_some kind e = cc
+-- a text that is no Node, has no : and isn't of digits alone is of a kind only as the text of a keyword
+no_word : (text : List ℕ) (kind : TokenKind) → is_node text ≡ false → has_colon text ≡ false → is_number text ≡ false → NoKeyword text → IsRunText text kind → ⊥
+no_word text _ no_node no_colon no_number none (node n) = cc
+no_word text _ no_node no_colon no_number none (short n c) = cc
+no_word text _ no_node no_colon no_number none (number n c d) = cc
+no_word text _ no_node no_colon no_number none (word k n c d same) = none k same
+
+pub word_text : (text : List ℕ) (o : Option Keyword) → is_node text ≡ false → has_colon text ≡ false → is_number text ≡ false → MatchOption o (NoKeyword text) (λ k. text ≡ keyword_text k) → MatchOption (option_map Word o) (NoRunText text) (IsRunText text)
+word_text text None no_node no_colon no_number none = λ kind r. no_word text kind no_node no_colon no_number none r
+word_text text (Some k) no_node no_colon no_number same = word k no_node no_colon no_number same

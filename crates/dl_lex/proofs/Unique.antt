@@ -6,11 +6,12 @@ use Rattle.dl_lex.specs.declared.token.TokenKind.{TokenKind}
 use Rattle.dl_lex.specs.declared.token.TokenKind.TheVariants.{Open, Close, Equals, Caret, Iri, Text, Lang, Node, Short, Number, Word, End}
 use Rattle.dl_lex.specs.declared.token.Token.{Token}
 use Rattle.dl_lex.specs.Characters.{StandsAt, is_comment_character, is_iri_character, is_lang_character, is_run_character}
-use Rattle.dl_lex.specs.Grammar.{is_white_space, Skips, nothing, white_space, comment, IsRun, run_kind, IsTokenAt, IsNextToken, IsFaultAt}
+use Rattle.dl_lex.specs.Grammar.{is_white_space, Skips, nothing, white_space, comment, IsRunText, node, short, number, word, IsRun, IsTokenAt, IsNextToken, IsFaultAt}
 use Rattle.dl_lex.proofs.Runs.{one_run}
 use Rattle.dl_lex.proofs.Tokens.{form, form_of_token, as_run}
 use Rattle.dl_lex.proofs.Quoted.{rest_from_text, one_rest}
 use Rattle.dl_lex.proofs.Ends.{iri_ends}
+use Rattle.dl_lex.proofs.Spelled.{keyword_unique}
 
 same_byte : (o : Option ℕ) (b c : ℕ) → o ≡ Some b → o ≡ Some c → b ≡ c
 same_byte o b c p q = cc
@@ -38,15 +39,30 @@ pub record AreSame (a b : TokenKind) (j k : ℕ) : Type 0 where
   pub kinds : a ≡ b
   pub ends : j ≡ k
 
-same_kind : (o : Option TokenKind) (a b : TokenKind) → o ≡ Some a → o ≡ Some b → a ≡ b
-same_kind o a b p q = cc
+-- a text is of one kind of run at most
+same_kind : (text : List ℕ) (a b : TokenKind) → IsRunText text a → IsRunText text b → a ≡ b
+same_kind text _ _ (node n) (node m) = refl
+same_kind text _ _ (node n) (short m c) = cc
+same_kind text _ _ (node n) (number m c d) = cc
+same_kind text _ _ (node n) (word k m c d s) = cc
+same_kind text _ _ (short n c) (node m) = cc
+same_kind text _ _ (short n c) (short m e) = refl
+same_kind text _ _ (short n c) (number m e d) = cc
+same_kind text _ _ (short n c) (word k m e d s) = cc
+same_kind text _ _ (number n c d) (node m) = cc
+same_kind text _ _ (number n c d) (short m e) = cc
+same_kind text _ _ (number n c d) (number m e f) = refl
+same_kind text _ _ (number n c d) (word k m e f s) = cc
+same_kind text _ _ (word j n c d s) (node m) = cc
+same_kind text _ _ (word j n c d s) (short m e) = cc
+same_kind text _ _ (word j n c d s) (number m e f) = cc
+same_kind text _ _ (word j n c d s) (word k m e f t) = ap Word (keyword_unique j k (sym s ∙ t))
 
 same_runs : (bytes : List ℕ) (a b : TokenKind) (i j k : ℕ) → IsRun bytes a i j → IsRun bytes b i k → AreSame a b j k
 same_runs bytes a b i j k s t =
     let same : k ≡ j = one_run is_run_character bytes i k j t.run s.run in
-    let other = subst (λ n. run_kind (slice_range bytes i n) ≡ Some b) same t.is in
-    let mine = s.is in
-    record { kinds = same_kind (run_kind (slice_range bytes i j)) a b mine other; ends = sym same }
+    let other = subst (λ n. IsRunText (slice_range bytes i n) b) same t.is in
+    record { kinds = same_kind (slice_range bytes i j) a b s.is other; ends = sym same }
 
 same_tokens : (bytes : List ℕ) (a b : TokenKind) (i j k : ℕ) → IsTokenAt bytes a i j → IsTokenAt bytes b i k → form a ≡ form b → AreSame a b j k
 same_tokens bytes Open Open i j k s t e = record { kinds = refl; ends = s.ends ∙ sym t.ends }

@@ -1,13 +1,14 @@
--- The tokens of OWL 2 functional-style syntax, with comments from # to the end of the line: which token stands where.
-use Rattle.std.specs.Prelude.{◌≡◌, ◌≢◌, ℕ, ◌+◌, ◌<◌, ◌≤◌, Bool, true, false, ◌&&◌, ◌==◌, nat_lt, if◌then◌else◌, ◌⊎◌, List, [], ◌∷◌, Option, Some, length, codes, slice_get, slice_range, slice_index}
+-- The tokens of this project's profile of the OWL 2 functional-style syntax, with comments from #
+-- to the end of the line: which token stands where.
+use Rattle.std.specs.Prelude.{◌≡◌, ◌≢◌, ℕ, ◌+◌, ◌<◌, ◌≤◌, Bool, true, false, ◌&&◌, ◌==◌, nat_lt, ◌⊎◌, List, [], ◌∷◌, Some, length, codes, slice_get, slice_range, slice_index}
 use Rattle.std.specs.List.{list_any, list_all}
-use Rattle.std.specs.Option.{option_map}
 use Rattle.std.specs.Char.{IsScalar, is_ascii_digit}
 use Rattle.std.specs.Str.{encode_utf8_all}
+use Rattle.dl_lex.specs.declared.keyword.Keyword.{Keyword}
 use Rattle.dl_lex.specs.declared.token.TokenKind.{TokenKind}
 use Rattle.dl_lex.specs.declared.token.TokenKind.TheVariants.{Open, Close, Equals, Caret, Iri, Text, Lang, Node, Short, Number, Word, End}
 use Rattle.dl_lex.specs.declared.token.Token.{Token}
-use Rattle.dl_lex.specs.Keywords.{keyword_of}
+use Rattle.dl_lex.specs.Keywords.{keyword_text}
 use Rattle.dl_lex.specs.Characters.{StandsAt, AreCharacters, IsLongestRun, is_among, is_iri_character, is_run_character, is_comment_character, is_lang_character}
 
 -- space, tab, carriage return or line feed
@@ -16,9 +17,13 @@ is_white_space c = is_among c (32 ∷ 9 ∷ 13 ∷ 10 ∷ [])
 
 -- the white space and the comments that begin at i end at j
 pub data Skips (bytes : List ℕ) : ℕ → ℕ → Type 0 where
-  nothing : (i : ℕ) → i ≤ length bytes → ((c : ℕ) → slice_get bytes i ≡ Some c → (is_white_space c ≡ false) × (c ≢ 35)) → Skips bytes i i
-  white_space : (i j c : ℕ) → slice_get bytes i ≡ Some c → is_white_space c ≡ true → Skips bytes (i + 1) j → Skips bytes i j
-  comment : (i j k : ℕ) → slice_get bytes i ≡ Some 35 → IsLongestRun is_comment_character bytes (i + 1) j → Skips bytes j k → Skips bytes i k
+  nothing : (i : ℕ) → i ≤ length bytes
+      → ((c : ℕ) → slice_get bytes i ≡ Some c → (is_white_space c ≡ false) × (c ≢ 35))
+      → Skips bytes i i
+  white_space : (i j c : ℕ) → slice_get bytes i ≡ Some c → is_white_space c ≡ true
+      → Skips bytes (i + 1) j → Skips bytes i j
+  comment : (i j k : ℕ) → slice_get bytes i ≡ Some 35
+      → IsLongestRun is_comment_character bytes (i + 1) j → Skips bytes j k → Skips bytes i k
 
 -- an IRI in full: <, characters of an IRI, >
 pub record IsIri (bytes : List ℕ) (i j : ℕ) : Type 0 where
@@ -52,19 +57,29 @@ pub record IsLang (bytes : List ℕ) (i j : ℕ) : Type 0 where
 abbrev pub is_node : List ℕ → Bool
 is_node text = slice_index text 0 == 95 && (slice_index text 1 == 58 && nat_lt 2 (length text))
 
--- what a run is by its text: a Node, else with a : a Short, else of digits a Number, else the keyword that it spells
-abbrev pub run_kind : List ℕ → Option TokenKind
-run_kind text =
-    if is_node text then Some Node
-    else (if list_any (λ c. c == 58) text then Some Short
-    else (if list_all is_ascii_digit text then Some Number
-    else option_map Word (keyword_of text)))
+-- has a :
+abbrev pub has_colon : List ℕ → Bool
+has_colon text = list_any (λ c. c == 58) text
+
+-- has digits alone
+abbrev pub is_number : List ℕ → Bool
+is_number text = list_all is_ascii_digit text
+
+-- what a run is by its text: a Node, else with a : a Short, else of digits a Number, else a Word,
+-- where it is the text of a keyword
+pub data IsRunText (text : List ℕ) : TokenKind → Type 0 where
+  node : is_node text ≡ true → IsRunText text Node
+  short : is_node text ≡ false → has_colon text ≡ true → IsRunText text Short
+  number : is_node text ≡ false → has_colon text ≡ false → is_number text ≡ true
+      → IsRunText text Number
+  word : (keyword : Keyword) → is_node text ≡ false → has_colon text ≡ false
+      → is_number text ≡ false → text ≡ keyword_text keyword → IsRunText text (Word keyword)
 
 -- the longest run of characters of a run, of which there is one at least, and which is of the kind
 pub record IsRun (bytes : List ℕ) (kind : TokenKind) (i j : ℕ) : Type 0 where
   pub run : IsLongestRun is_run_character bytes i j
   pub some : i < j
-  pub is : run_kind (slice_range bytes i j) ≡ Some kind
+  pub is : IsRunText (slice_range bytes i j) kind
 
 -- a token of the kind stands from i to j
 abbrev pub IsTokenAt : List ℕ → TokenKind → ℕ → ℕ → Type 0

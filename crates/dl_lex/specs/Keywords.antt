@@ -1,9 +1,7 @@
--- The keywords of OWL 2 functional-style syntax.
-use Rattle.std.specs.Prelude.{ℕ, List, Option, codes, find}
-use Rattle.std.specs.Str.{bytes_eq}
+-- The keywords of this project's profile of the OWL 2 functional-style syntax.
+use Rattle.std.specs.Prelude.{ℕ, ◌≢◌, List, codes}
 use Rattle.dl_lex.specs.declared.keyword.Keyword.{Keyword}
 use Rattle.dl_lex.specs.declared.keyword.Keyword.TheVariants.{SubClassOf, ObjectSomeValuesFrom, ClassAssertion, ObjectPropertyAssertion, Declaration, Class, NamedIndividual, ObjectInverseOf, ObjectProperty, SubObjectPropertyOf, ObjectPropertyDomain, ObjectPropertyRange, AnnotationAssertion, Annotation, ObjectIntersectionOf, ObjectComplementOf, EquivalentClasses, DisjointClasses, InverseObjectProperties, EquivalentObjectProperties, DisjointObjectProperties, SymmetricObjectProperty, AsymmetricObjectProperty, IrreflexiveObjectProperty, DifferentIndividuals, AnnotationProperty, Datatype, DataProperty, SubAnnotationPropertyOf, AnnotationPropertyDomain, AnnotationPropertyRange, Prefix, Ontology, Import, DataPropertyAssertion, DataSomeValuesFrom, SubDataPropertyOf, EquivalentDataProperties, DisjointDataProperties, DataPropertyDomain, DataPropertyRange, ReflexiveObjectProperty, DatatypeDefinition, FunctionalObjectProperty, InverseFunctionalObjectProperty, TransitiveObjectProperty, FunctionalDataProperty, DisjointUnion, HasKey, SameIndividual, NegativeObjectPropertyAssertion, NegativeDataPropertyAssertion, ObjectPropertyChain, ObjectUnionOf, ObjectOneOf, ObjectAllValuesFrom, ObjectHasValue, ObjectHasSelf, ObjectMinCardinality, ObjectMaxCardinality, ObjectExactCardinality, DataAllValuesFrom, DataHasValue, DataMinCardinality, DataMaxCardinality, DataExactCardinality, DataIntersectionOf, DataUnionOf, DataComplementOf, DataOneOf, DatatypeRestriction}
-use Rattle.dl_lex.specs.declared.keyword.TheConstants.{KEYWORDS}
 
 -- how a keyword is written
 unfoldable pub keyword_text : Keyword → List ℕ
@@ -79,6 +77,6 @@ keyword_text DataComplementOf = codes "DataComplementOf"
 keyword_text DataOneOf = codes "DataOneOf"
 keyword_text DatatypeRestriction = codes "DatatypeRestriction"
 
--- the keyword that a text spells, if there is one
-unfoldable pub keyword_of : List ℕ → Option Keyword
-keyword_of text = find (λ k. bytes_eq (keyword_text k) text) KEYWORDS
+-- no keyword is written so
+abbrev pub NoKeyword : List ℕ → Type 0
+NoKeyword text = (k : Keyword) → text ≢ keyword_text k

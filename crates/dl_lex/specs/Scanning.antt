@@ -4,7 +4,7 @@ use Rattle.std.specs.Str.{encode_utf8_all}
 use Rattle.dl_lex.specs.declared.token.TokenKind.{TokenKind}
 use Rattle.dl_lex.specs.declared.token.Token.{Token}
 use Rattle.dl_lex.specs.Characters.{StandsAt}
-use Rattle.dl_lex.specs.Grammar.{Skips, IsQuoted, IsTokenAt}
+use Rattle.dl_lex.specs.Grammar.{Skips, IsQuoted, IsRunText, IsTokenAt}
 
 -- no token begins at the place
 abbrev pub NoTokenAt : List ℕ → ℕ → Type 0
@@ -40,6 +40,10 @@ pub record IsEscapeAt (bytes : List ℕ) (i j : ℕ) : Type 0 where
 -- no such pair begins at i
 abbrev pub NoEscapeAt : List ℕ → ℕ → Type 0
 NoEscapeAt bytes i = (j : ℕ) → ¬ IsEscapeAt bytes i j
+
+-- the text is of no kind of run
+abbrev pub NoRunText : List ℕ → Type 0
+NoRunText text = (kind : TokenKind) → ¬ IsRunText text kind
 
 -- the byte begins none of the tokens that are no runs
 pub record IsRunByte (byte : ℕ) : Type 0 where

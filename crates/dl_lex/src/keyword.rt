@@ -1,10 +1,11 @@
-// The keywords of functional syntax.
-ghost use Rattle.std.specs.Prelude.{◌≡◌, find};
+// The keywords of the profile.
+ghost use Rattle.std.specs.Prelude.{◌≡◌, find, MatchOption};
 ghost use Rattle.std.specs.Str.{bytes_eq};
-ghost use Rattle.dl_lex.specs.Keywords.{keyword_text, keyword_of};
+ghost use Rattle.dl_lex.specs.Keywords.{keyword_text, NoKeyword};
 
-/// A keyword of OWL 2 functional-style syntax: those of the profile that is read, and those of the constructs that are
-/// refused by name.
+/// A keyword of this project's profile of the OWL 2 functional-style syntax: those of its grammar, those of constructs
+/// that it refuses by name, and those of data ranges, for which it has no rule yet (`DataIntersectionOf`, `DataUnionOf`,
+/// `DataComplementOf`, `DataOneOf` and `DatatypeRestriction`).
 #[derive(Clone, Copy, Debug, PartialEq, Eq)]
 pub enum Keyword {
     SubClassOf,
@@ -237,8 +238,8 @@ impl Keyword {
     }
 
     /// The keyword that a text spells, letter for letter. `None` exactly where it spells none.
-    pub fn of(text: &[u8]) -> Option<Keyword>
-        ensures { result ≡ keyword_of text.now }
+    pub(crate) fn of(text: &[u8]) -> Option<Keyword>
+        ensures { MatchOption result (NoKeyword text.now) (λ k. text.now ≡ keyword_text k) }
     {
         first_spelled(&KEYWORDS, text)
     }

@@ -1,8 +1,8 @@
 // Laws of the grammar.
-ghost use Rattle.std.specs.Prelude.{◌≡◌, ℕ, List, Some};
+ghost use Rattle.std.specs.Prelude.{◌≡◌, ℕ, List};
 ghost use Rattle.dl_lex.specs.declared.keyword.Keyword.{Keyword};
 ghost use Rattle.dl_lex.specs.declared.token.Token.{Token};
-ghost use Rattle.dl_lex.specs.Keywords.{keyword_text, keyword_of};
+ghost use Rattle.dl_lex.specs.Keywords.{keyword_text};
 ghost use Rattle.dl_lex.specs.Grammar.{IsNextToken, IsFaultAt};
 
 /// A law: from a place one token at most is the next, of one kind, and a fault comes at one place at most and only
@@ -16,9 +16,7 @@ pub fn tokens_are_unique()
         → IsFaultAt bytes place f → IsFaultAt bytes place g → f ≡ g }
 {}
 
-/// A law: each keyword is spelled by its text, and by no other.
+/// A law: a text is that of one keyword at most.
 pub fn keywords_are_unique()
-    ensures spelled { (k : Keyword) → keyword_of (keyword_text k) ≡ Some k }
-    ensures alone { (text : List ℕ) (k : Keyword) → keyword_of text ≡ Some k →
-        keyword_text k ≡ text }
+    ensures { (j k : Keyword) → keyword_text j ≡ keyword_text k → j ≡ k }
 {}

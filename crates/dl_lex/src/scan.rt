@@ -1,9 +1,7 @@
 // What stands at a place of the bytes: white space, a comment, a token.
 ghost use Rattle.std.specs.Prelude.{◌≡◌, ◌≢◌, ℕ, ◌+◌, ◌<◌, ◌≤◌, ◌⊎◌, ◌↔◌, IsTrue, length, slice_index, MatchOption};
-ghost use Rattle.std.specs.List.{list_all};
-ghost use Rattle.std.specs.Char.{is_ascii_digit};
-ghost use Rattle.dl_lex.specs.Grammar.{Skips, is_white_space, is_node, run_kind};
-ghost use Rattle.dl_lex.specs.Scanning.{IsScan, IsRestOfText, SkipsOne, IsEscapeAt, NoEscapeAt, IsRunByte};
+ghost use Rattle.dl_lex.specs.Grammar.{Skips, is_white_space, is_node, is_number, IsRunText};
+ghost use Rattle.dl_lex.specs.Scanning.{IsScan, IsRestOfText, SkipsOne, IsEscapeAt, NoEscapeAt, IsRunByte, NoRunText};
 
 use crate::characters::{Class, run_end};
 use crate::keyword::Keyword;
@@ -112,8 +110,7 @@ fn text(bytes: &[u8], at: usize) -> Option<Token>
 /// The end of a string of which the opening `"` stands before a place, if it ends.
 fn text_end(bytes: &[u8], from: usize) -> Option<usize>
     requires { from ≤ length bytes.now }
-    ensures {
-        MatchOption result ((j : ℕ) → ¬ IsRestOfText bytes.now from j)
+    ensures { MatchOption result ((j : ℕ) → ¬ IsRestOfText bytes.now from j)
         (IsRestOfText bytes.now from) }
 {
     let mut at = run_end(bytes, from, Class::Plain);
@@ -166,7 +163,7 @@ fn run(bytes: &[u8], at: usize) -> Option<Token>
 
 /// What a run is by its text.
 fn run_kind(text: &[u8]) -> Option<TokenKind>
-    ensures { result ≡ run_kind text.now }
+    ensures { MatchOption result (NoRunText text.now) (IsRunText text.now) }
 {
     if is_node(text) {
         return Some(TokenKind::Node);
@@ -187,7 +184,7 @@ fn is_node(text: &[u8]) -> bool
 }
 
 fn is_number(text: &[u8]) -> bool
-    ensures { result ≡ list_all is_ascii_digit text.now }
+    ensures { result ≡ is_number text.now }
 {
     text.iter().all(|byte| byte.is_ascii_digit())
 }

@@ -1,5 +1,5 @@
-use Rattle.dl_lex.proofs.Spelled.{keyword_spelled, keyword_alone}
+use Rattle.dl_lex.proofs.Spelled.{keyword_unique}
 use Rattle.dl_lex.proofs.laws.keywords_are_unique.Goals as goal
 
 pub returns : goal.returns
-returns c = record { spelled = keyword_spelled; alone = keyword_alone }
+returns c = keyword_unique
