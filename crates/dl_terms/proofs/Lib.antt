@@ -8,3 +8,4 @@ pub mod AnswerLemmas
 pub mod MatchLemmas
 pub mod ExampleLemmas
 pub mod BrokenExampleLemmas
+pub mod ReplyExampleLemmas

@@ -1,5 +1,6 @@
 -- The ontologies and queries of the worked examples, in functional syntax and as lists. Numbers stand for names.
-use Rattle.std.specs.Prelude.{ℕ, List, [], ◌∷◌}
+use Rattle.std.specs.Prelude.{ℕ, suc, List, [], ◌∷◌, map}
+use Rattle.std.specs.List.{range_with_len}
 use Rattle.dl_terms.specs.Roles.{named, inverse_of, filler_of}
 use Rattle.dl_terms.specs.declared.role.Role.{Role}
 use Rattle.dl_terms.specs.declared.role.Basic.TheVariants as basic
@@ -148,3 +149,11 @@ seven_in_a_row = record {
 -- q(x, y) :- S(x, y)
 abbrev pub is_s : Query
 is_s = record { head = 0 ∷ 1 ∷ []; atoms = link property_s 0 1 ∷ []; vars = 2 }
+
+-- q(x, y) :- P(x, x)
+abbrev pub unsafe_head : Query
+unsafe_head = record { head = 0 ∷ 1 ∷ []; atoms = link property_p 0 0 ∷ []; vars = 2 }
+
+-- q(x) :- P(x, v1), .., P(x, vn)
+abbrev pub has_neighbours : ℕ → Query
+has_neighbours n = record { head = 0 ∷ []; atoms = map (link property_p 0) (range_with_len 1 n); vars = suc n }

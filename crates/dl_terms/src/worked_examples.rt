@@ -6,14 +6,17 @@ ghost use Rattle.dl_terms.specs.Structure.{Element, IsElement, HoldsAt, individu
 ghost use Rattle.dl_terms.specs.Answers.{IsCertain, AreCertain};
 ghost use Rattle.dl_terms.specs.Broken.{IsFirstBroken, NothingIsBroken};
 ghost use Rattle.dl_terms.specs.Order.{axiom_cmp};
+ghost use Rattle.dl_terms.specs.Queries.{IsWellFormed};
+ghost use Rattle.dl_terms.specs.Reply.{IsReply, found, too_many, inconsistent};
 ghost use Rattle.dl_terms.specs.Sets.{IsSetOf};
-ghost use Rattle.dl_terms.specs.Examples.{class_a, class_c, class_d, role_p, role_s, p_in_c, name_a, name_b, name_c, a_is_an_a, a_and_c_are_as, p_from_a_to_b, p_from_a_to_a, a_has_a_p, a_p_has_an_s, a_p_has_a_p, p_is_a_turned_s, a_filler_in_c_and_d, c_and_d_are_disjoint, p_is_asymmetric, p_is_irreflexive, an_a_is_a_d, a_is_disjoint_from_itself, has_a_p, is_p, share_a_p, has_a_p_with_an_s, some_loop, seven_in_a_row, is_s};
+ghost use Rattle.dl_terms.specs.Examples.{class_a, class_c, class_d, role_p, role_s, p_in_c, name_a, name_b, name_c, a_is_an_a, a_and_c_are_as, p_from_a_to_b, p_from_a_to_a, a_has_a_p, a_p_has_an_s, a_p_has_a_p, p_is_a_turned_s, a_filler_in_c_and_d, c_and_d_are_disjoint, p_is_asymmetric, p_is_irreflexive, an_a_is_a_d, a_is_disjoint_from_itself, has_a_p, is_p, share_a_p, has_a_p_with_an_s, some_loop, seven_in_a_row, is_s, unsafe_head, has_neighbours};
 ghost use Rattle.dl_terms.specs.declared.role.Basic.TheVariants.{Class, SomeOf};
 ghost use Rattle.dl_terms.specs.declared.role.Negative.TheVariants.{Basics, Roles, NoLoop};
 ghost use Rattle.dl_terms.specs.declared.axiom.Part.TheVariants as part;
 ghost use Rattle.dl_terms.specs.declared.axiom.Axiom.{Axiom};
 ghost use Rattle.dl_terms.specs.declared.axiom.Axiom.TheVariants.{SubClass, EquivalentClasses, DisjointClasses, SubRole, EquivalentRoles, DisjointRoles, InverseRoles, Domain, Range, Symmetric, Asymmetric, Irreflexive};
 ghost use Rattle.dl_terms.specs.declared.axiom.Fact.{Fact};
+ghost use Rattle.dl_terms.specs.declared.query.Query.{Query};
 
 /// The certain answers of small ontologies.
 pub fn worked_examples()
@@ -68,6 +71,26 @@ pub fn broken_examples()
     // A is disjoint from itself: operands are read by position.
     ensures by_position { IsFirstBroken (a_is_disjoint_from_itself ∷ []) (a_is_an_a ∷ []) None
         (Some a_is_disjoint_from_itself) }
+{}
+
+/// The defined replies of small ontologies.
+pub fn reply_examples()
+    // Two answers, where as many are let through, and where one is.
+    ensures as_many_as_the_limit { IsReply (a_has_a_p ∷ []) a_and_c_are_as None share_a_p 2
+        (found ((name_a ∷ name_a ∷ []) ∷ (name_c ∷ name_c ∷ []) ∷ [])) }
+    ensures one_over_the_limit { IsReply (a_has_a_p ∷ []) a_and_c_are_as None share_a_p 1 too_many }
+
+    // Where something is broken, that is the reply to each query.
+    ensures broken { (q : Query) (limit : ℕ) →
+        IsReply a_filler_in_c_and_d (a_is_an_a ∷ []) None q limit
+        (inconsistent (Some c_and_d_are_disjoint)) }
+{}
+
+/// Queries that are well formed, and some that are not.
+pub fn query_examples()
+    ensures eight_existential { IsWellFormed (has_neighbours 8) }
+    ensures nine_existential { ¬ IsWellFormed (has_neighbours 9) }
+    ensures unsafe_head { ¬ IsWellFormed unsafe_head }
 {}
 
 /// The rows of the normal form of an axiom of each kind, in order within the axiom.
