@@ -1,6 +1,6 @@
 -- What follows from a call's answer, whichever it is.
 use Rattle.std.proofs.Common.{◌≡◌, ℕ, Result, Ok, Err, IfOk, OnErr, is_ok, if◌then◌else◌, arith}
-use Rattle.dl_io.specs.Count.{raised, HasRisen}
+use Rattle.dl_io.specs.Count.{raised_count, HasRisen}
 
 -- what holds of every value holds of the one in an `Ok`
 pub IfOk-each : {T E : Type 0} (answer : Result T E) (P : T → Type 0) → ((value : T) → P value) → IfOk answer P
@@ -8,7 +8,7 @@ IfOk-each (Ok value) P each = each value
 IfOk-each (Err error) P each = tt
 
 -- a count that goes up at each `Err` rose where there is one
-pub HasRisen-counted : {T E : Type 0} (answer : Result T E) (before now : ℕ) → now ≡ (if is_ok answer then before else raised before) → OnErr answer (HasRisen before now)
+pub HasRisen-counted : {T E : Type 0} (answer : Result T E) (before now : ℕ) → now ≡ (if is_ok answer then before else raised_count before) → OnErr answer (HasRisen before now)
 HasRisen-counted (Ok value) before now counted = tt
 HasRisen-counted (Err error) before now counted = omega arith
 

@@ -2,8 +2,8 @@
 use Rattle.std.specs.Prelude.{ℕ, ◌+◌, ◌-◌, ◌^◌, ◌≤◌, min}
 
 -- the count after one more fault: it stops at the last number of 64 bits
-abbrev pub raised : ℕ → ℕ
-raised count = min (count + 1) (2 ^ 64 - 1)
+abbrev pub raised_count : ℕ → ℕ
+raised_count count = min (count + 1) (2 ^ 64 - 1)
 
 -- the count rose, or it stands at its end, where it can't rise any more
 abbrev pub HasRisen : ℕ → ℕ → Type 0

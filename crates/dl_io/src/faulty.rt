@@ -88,7 +88,8 @@ impl MemorySink {
     /// of `write` that are to fail, counted from 0.
     pub fn new(buffer: Vec<u8>, fails: Vec<u64>) -> MemorySink
         requires { buffer.items ≡ [] }
-        ensures buffer { result.buffer ≡ record { bytes = []; room = vec_capacity buffer; lost = false } }
+        ensures buffer { result.buffer ≡
+            record { bytes = []; room = vec_capacity buffer; lost = false } }
         ensures schedule { result.schedule ≡ record { fails = fails.items; calls = 0; faults = 0 } }
     {
         MemorySink {

@@ -1,5 +1,5 @@
 ghost use Rattle.std.specs.Prelude.{ℕ, ◌≡◌, ◌≤◌, ◌<◌, length, None, IfOk, is_ok, if◌then◌else◌};
-ghost use Rattle.dl_io.specs.Count.{raised};
+ghost use Rattle.dl_io.specs.Count.{raised_count};
 
 use crate::devices::{Failed, Sink};
 use std::marker::Model;
@@ -35,7 +35,7 @@ impl<P: Print> Sink for OutSink<'_, P> {
     fn write(&mut self, piece: &[u8]) -> Result<usize, Failed>
         ensures fits { IfOk result (λ n. n ≤ length piece.now) }
         ensures some { IfOk result (λ n. 0 < length piece.now → 0 < n) }
-        ensures counted { self.new ≡ (if is_ok result then self.old else raised self.old) }
+        ensures counted { self.new ≡ (if is_ok result then self.old else raised_count self.old) }
         ensures count { self.old ≤ self.new }
     {
         match self.out.write_some(piece) {

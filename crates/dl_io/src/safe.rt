@@ -45,7 +45,8 @@ impl Library for SafeLibrary {
     ghost faults = { λ _. 0 };
 
     fn read(&mut self, name: &str, from: u64, buf: &mut [u8]) -> Result<usize, Failed>
-        ensures ok { result ≡ Ok (length (part_of (bytes_of self.old name.now) from (length buf.old))) }
+        ensures ok { result ≡
+            Ok (length (part_of (bytes_of self.old name.now) from (length buf.old))) }
         ensures copied { buf.new ≡
             with_front (part_of (bytes_of self.old name.now) from (length buf.old)) buf.old }
         ensures unchanged { self.new ≡ self.old }

@@ -1,5 +1,5 @@
 ghost use Rattle.std.specs.Prelude.{ℕ, ◌≡◌, ◌≤◌, length, None, IfOk, is_ok, if◌then◌else◌};
-ghost use Rattle.dl_io.specs.Count.{raised};
+ghost use Rattle.dl_io.specs.Count.{raised_count};
 
 use crate::devices::{Failed, Library};
 use std::fs;
@@ -37,7 +37,7 @@ impl<R: Files> Library for FileLibrary<'_, R> {
 
     fn read(&mut self, name: &str, from: u64, buf: &mut [u8]) -> Result<usize, Failed>
         ensures fits { IfOk result (λ n. n ≤ length buf.new) }
-        ensures counted { self.new ≡ (if is_ok result then self.old else raised self.old) }
+        ensures counted { self.new ≡ (if is_ok result then self.old else raised_count self.old) }
         ensures count { self.old ≤ self.new }
     {
         match read_at(self.files, name, from, buf) {

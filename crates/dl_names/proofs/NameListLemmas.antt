@@ -4,11 +4,10 @@ use Rattle.std.specs.List.{list_any, position_or_len}
 use Rattle.std.specs.Str.{bytes_eq}
 use Rattle.std.proofs.lemmas.Slice.Eq.{bytes_eq-Decides}
 use Rattle.std.proofs.lemmas.List.Folds.{list_any-append, list_any_at}
-use Rattle.std.proofs.lemmas.List.Sums.{fold-append}
 use Rattle.std.proofs.lemmas.List.{length-append, get_or_append_left}
 use Rattle.std.proofs.lemmas.List.Quantifiers.{all_pairs_push}
 use Rattle.std.proofs.lemmas.Option.{slice_get-get_or, get_or_from_slice_get, slice_get_within}
-use Rattle.dl_names.specs.NameList.{Text, has_name, added, all_added, place_of, HasNoRepeats, Extends}
+use Rattle.dl_names.specs.NameList.{Text, has_name, names_after, place_of, HasNoRepeats, Extends}
 
 -- ---- the first element that passes a test
 
@@ -147,39 +146,39 @@ module _ (old new : List Text) (grows : Extends old new) where
 
 module _ (names : List Text) (text : Text) where
   -- one that is there changes nothing
-  pub added-old : has_name names text ≡ true → added names text ≡ names
-  added-old h = ap (λ c. if c then names else names ++ text ∷ []) h
+  pub names_after-old : has_name names text ≡ true → names_after names text ≡ names
+  names_after-old h = ap (λ c. if c then names else names ++ text ∷ []) h
 
   -- and a new one goes last
-  pub added-new : has_name names text ≡ false → added names text ≡ names ++ text ∷ []
-  added-new h = ap (λ c. if c then names else names ++ text ∷ []) h
+  pub names_after-new : has_name names text ≡ false → names_after names text ≡ names ++ text ∷ []
+  names_after-new h = ap (λ c. if c then names else names ++ text ∷ []) h
 
   -- a fact of both cases
-  pub added_cases : (P : List Text → Type 0) → (has_name names text ≡ true → P names) → (has_name names text ≡ false → P (names ++ text ∷ [])) → P (added names text)
-  added_cases P old new = by (has_name names text) refl
+  pub names_after_cases : (P : List Text → Type 0) → (has_name names text ≡ true → P names) → (has_name names text ≡ false → P (names ++ text ∷ [])) → P (names_after names text)
+  names_after_cases P old new = by (has_name names text) refl
     where
-      by : (b : Bool) → has_name names text ≡ b → P (added names text)
-      by true e = subst P (sym (added-old e)) (old e)
-      by false e = subst P (sym (added-new e)) (new e)
+      by : (b : Bool) → has_name names text ≡ b → P (names_after names text)
+      by true e = subst P (sym (names_after-old e)) (old e)
+      by false e = subst P (sym (names_after-new e)) (new e)
 
-  pub Extends-added : Extends names (added names text)
-  Extends-added =
-      added_cases (λ l. Extends names l) (λ _. Extends-same names) (λ _. record { more = text ∷ []; is = refl })
+  pub Extends-names_after : Extends names (names_after names text)
+  Extends-names_after =
+      names_after_cases (λ l. Extends names l) (λ _. Extends-same names) (λ _. record { more = text ∷ []; is = refl })
 
-  pub length-added : length (added names text) ≤ length names + 1
-  length-added =
-      added_cases (λ l. length l ≤ length names + 1) (λ _. omega arith) (λ _. omega (arith, length-append names (text ∷ [])))
+  pub length-names_after : length (names_after names text) ≤ length names + 1
+  length-names_after =
+      names_after_cases (λ l. length l ≤ length names + 1) (λ _. omega arith) (λ _. omega (arith, length-append names (text ∷ [])))
 
   -- a text that is named is a name
-  pub has_name-added : has_name (added names text) text ≡ true
-  has_name-added =
-      added_cases (λ l. has_name l text ≡ true) (λ h. h)
+  pub has_name-names_after : has_name (names_after names text) text ≡ true
+  has_name-names_after =
+      names_after_cases (λ l. has_name l text ≡ true) (λ h. h)
       (λ h. list_any-append (bytes_eq text) names (text ∷ []) ∙ ap (λ b. b || (bytes_eq text text || false)) h ∙ ap (λ b. b || false) (bytes_eq-same text))
 
   -- and no other text becomes one
-  pub has_name-added_cases : (other : Text) → has_name (added names text) other ≡ true → (has_name names other ≡ true) ⊎ (other ≡ text)
-  has_name-added_cases other =
-      added_cases (λ l. has_name l other ≡ true → (has_name names other ≡ true) ⊎ (other ≡ text)) (λ _ h. inl h)
+  pub has_name-names_after_cases : (other : Text) → has_name (names_after names text) other ≡ true → (has_name names other ≡ true) ⊎ (other ≡ text)
+  has_name-names_after_cases other =
+      names_after_cases (λ l. has_name l other ≡ true → (has_name names other ≡ true) ⊎ (other ≡ text)) (λ _ h. inl h)
       (λ _ h. by (has_name names other) refl (sym (list_any-append (bytes_eq other) names (text ∷ [])) ∙ h))
     where
       last : (b : Bool) → bytes_eq other text ≡ b → (b || false) ≡ true → other ≡ text
@@ -191,44 +190,20 @@ module _ (names : List Text) (text : Text) where
       by false e h = inr (last (bytes_eq other text) refl (rw e at h))
 
   -- the place that the text gets is the one that it would have before
-  pub place_of-added : place_of (added names text) text ≡ place_of names text
-  place_of-added =
+  pub place_of-names_after : place_of (names_after names text) text ≡ place_of names text
+  place_of-names_after =
       by (has_name names text) refl
     where
-      by : (b : Bool) → has_name names text ≡ b → place_of (added names text) text ≡ place_of names text
-      by true e = ap (λ l. place_of l text) (added-old e)
+      by : (b : Bool) → has_name names text ≡ b → place_of (names_after names text) text ≡ place_of names text
+      by true e = ap (λ l. place_of l text) (names_after-old e)
       by false e =
-          ap (λ l. place_of l text) (added-new e) ∙ position_or_len-push (bytes_eq text) names text e (bytes_eq-same text) ∙ sym (place_of-new names text e)
+          ap (λ l. place_of l text) (names_after-new e) ∙ position_or_len-push (bytes_eq text) names text e (bytes_eq-same text) ∙ sym (place_of-new names text e)
 
-  pub HasNoRepeats-added : HasNoRepeats names → HasNoRepeats (added names text)
-  HasNoRepeats-added distinct =
-      added_cases HasNoRepeats (λ _. distinct)
+  pub HasNoRepeats-names_after : HasNoRepeats names → HasNoRepeats (names_after names text)
+  HasNoRepeats-names_after distinct =
+      names_after_cases HasNoRepeats (λ _. distinct)
       (λ h. all_pairs_push (λ x y. x ≢ y) names text distinct (λ k d k_in same. true≢false (sym (list_any_at (bytes_eq text) names k d k_in (subst (λ t. bytes_eq text t ≡ true) (sym same) (bytes_eq-same text))) ∙ h)))
-
--- ---- texts are named in turn
-
-pub all_added-append : (names xs ys : List Text) → all_added names (xs ++ ys) ≡ all_added (all_added names xs) ys
-all_added-append names xs ys = fold-append added names xs ys
-
-pub Extends-all_added : (names texts : List Text) → Extends names (all_added names texts)
-Extends-all_added names [] = Extends-same names
-Extends-all_added names (x ∷ xs) = Extends-trans names (added names x) _ (Extends-added names x) (Extends-all_added (added names x) xs)
-
-pub HasNoRepeats-all_added : (names texts : List Text) → HasNoRepeats names → HasNoRepeats (all_added names texts)
-HasNoRepeats-all_added names [] distinct = distinct
-HasNoRepeats-all_added names (x ∷ xs) distinct = HasNoRepeats-all_added (added names x) xs (HasNoRepeats-added names x distinct)
 
 -- the empty list has no repeats
 pub HasNoRepeats-nil : HasNoRepeats []
 HasNoRepeats-nil = λ i j d lt within same. omega arith
-
--- each text that is named is a name
-pub has_name-all_added : (names texts : List Text) (text : Text) → has_name texts text ≡ true → has_name (all_added names texts) text ≡ true
-has_name-all_added names [] text h = absurd (true≢false (sym h))
-has_name-all_added names (x ∷ xs) text h = by (bytes_eq text x) refl (has_name-all_added (added names x) xs text)
-  where
-    by : (b : Bool) → bytes_eq text x ≡ b → (has_name xs text ≡ true → has_name (all_added (added names x) xs) text ≡ true) → has_name (all_added names (x ∷ xs)) text ≡ true
-    by true e rest =
-        has_name-Extends (added names x) _ (Extends-all_added (added names x) xs) text
-        (subst (λ t. has_name (added names x) t ≡ true) (sym (same-bytes_eq text x e)) (has_name-added names x))
-    by false e rest = rest (rw e at h)

@@ -6,8 +6,8 @@ use Rattle.std.specs.String.{string_eq}
 use Rattle.std.proofs.lemmas.List.{map-append, length-map}
 use Rattle.std.proofs.lemmas.Option.{cond_some}
 use Rattle.indexmap.specs.IndexSet.{insert_key}
-use Rattle.dl_names.specs.NameList.{Text, has_name, added, place_of}
-use Rattle.dl_names.proofs.NameListLemmas.{added-old, added-new}
+use Rattle.dl_names.specs.NameList.{Text, has_name, names_after, place_of}
+use Rattle.dl_names.proofs.NameListLemmas.{names_after-old, names_after-new}
 
 module _ {X Y : Type 0} (f : X → Y) (p : Y → Bool) where
   pub list_any-map : (xs : List X) → list_any p (map f xs) ≡ list_any (λ x. p (f x)) xs
@@ -33,17 +33,17 @@ module _ (strings : List (String Global)) (names : List Text) (shown : map strin
         ap (λ l. place_of l text) (sym shown) ∙ position_or_len-map string_bytes (bytes_eq text) strings ∙ (cond_some _ _ _ (sym found)).1
 
     -- a string that is inserted is a text that is named
-    pub insert_key_shown : (string : String Global) → string_bytes string ≡ text → map string_bytes (insert_key string_eq strings string) ≡ added names text
+    pub insert_key_shown : (string : String Global) → string_bytes string ≡ text → map string_bytes (insert_key string_eq strings string) ≡ names_after names text
     insert_key_shown string bytes = by (list_any (string_eq string) strings) refl
       where
         same : has_name names text ≡ list_any (string_eq string) strings
         same = has_name_shown ∙ ap (λ t. list_any (λ k. bytes_eq t (string_bytes k)) strings) (sym bytes)
 
-        by : (b : Bool) → list_any (string_eq string) strings ≡ b → map string_bytes (insert_key string_eq strings string) ≡ added names text
+        by : (b : Bool) → list_any (string_eq string) strings ≡ b → map string_bytes (insert_key string_eq strings string) ≡ names_after names text
         by true e =
-            ap (λ c. map string_bytes (if c then strings else strings ++ string ∷ [])) e ∙ shown ∙ sym (added-old names text (same ∙ e))
+            ap (λ c. map string_bytes (if c then strings else strings ++ string ∷ [])) e ∙ shown ∙ sym (names_after-old names text (same ∙ e))
         by false e =
             ap (λ c. map string_bytes (if c then strings else strings ++ string ∷ [])) e
             ∙ map-append string_bytes strings (string ∷ [])
             ∙ (λ i. shown i ++ bytes i ∷ [])
-            ∙ sym (added-new names text (same ∙ e))
+            ∙ sym (names_after-new names text (same ∙ e))

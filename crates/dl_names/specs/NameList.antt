@@ -1,5 +1,5 @@
 -- Lists of names: texts in the order in which they were first named.
-use Rattle.std.specs.Prelude.{ℕ, ◌≡◌, ◌≢◌, Bool, List, [], ◌∷◌, ◌++◌, if◌then◌else◌, fold, AllPairs}
+use Rattle.std.specs.Prelude.{ℕ, ◌≡◌, ◌≢◌, Bool, List, [], ◌∷◌, ◌++◌, if◌then◌else◌, AllPairs}
 use Rattle.std.specs.List.{list_any, position_or_len}
 use Rattle.std.specs.Str.{bytes_eq}
 
@@ -16,12 +16,8 @@ abbrev pub has_name : List Text → Text → Bool
 has_name names text = list_any (bytes_eq text) names
 
 -- the names after a text is named: a text that is among them changes nothing, and a new one goes last
-abbrev pub added : List Text → Text → List Text
-added names text = if has_name names text then names else names ++ text ∷ []
-
--- the names after each of the texts is named in turn
-abbrev pub all_added : List Text → List Text → List Text
-all_added names texts = fold added names texts
+abbrev pub names_after : List Text → Text → List Text
+names_after names text = if has_name names text then names else names ++ text ∷ []
 
 -- the place of the text by first occurrence: how many names stand before it
 abbrev pub place_of : List Text → Text → ℕ

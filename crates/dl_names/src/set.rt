@@ -1,5 +1,5 @@
 ghost use Rattle.std.specs.Prelude.{◌≡◌, ◌<◌, ◌≤◌, ◌↔◌, [], length, true, false, IsOk, IfOk, OnOk, OnErr};
-ghost use Rattle.dl_names.specs.NameList.{max_names, added, has_name, place_of, HasNoRepeats};
+ghost use Rattle.dl_names.specs.NameList.{max_names, names_after, has_name, place_of, HasNoRepeats};
 ghost use Rattle.dl_names.specs.Frozen.{IsFrozen};
 
 use crate::arrange::{numbered, ranks_of, texts_of};
@@ -44,8 +44,9 @@ impl NameSet {
     /// `Full` exactly where `MAX_NAMES` names are there and the text is none of them. `NoMemory` comes only for a new text.
     /// After an error the names are as before.
     pub fn add(&mut self, text: &str) -> Result<u32, NameFault>
-        ensures named { OnOk result (self.new ≡ added self.old text.now) }
-        ensures place { IfOk result (λ place. place ≡ place_of (added self.old text.now) text.now) }
+        ensures named { OnOk result (self.new ≡ names_after self.old text.now) }
+        ensures place { IfOk result (λ place.
+            place ≡ place_of (names_after self.old text.now) text.now) }
         ensures within { IfOk result (λ place. place < length self.new) }
 
         ensures known { has_name self.old text.now ≡ true → IsOk result }

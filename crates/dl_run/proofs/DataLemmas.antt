@@ -5,8 +5,8 @@ use Rattle.std.proofs.lemmas.List.{map-append, nil_from_length}
 use Rattle.std.proofs.lemmas.List.Elements.{All-nil, All-push}
 use Rattle.dl_terms.specs.declared.axiom.Fact.{Fact}
 use Rattle.dl_terms.specs.declared.axiom.Fact.TheVariants.{Is}
-use Rattle.dl_names.specs.NameList.{Text, added, place_of, Extends}
-use Rattle.dl_names.proofs.NameListLemmas.{Extends-same, Extends-trans, Extends-added, length-Extends, has_name-added, place_of-lt}
+use Rattle.dl_names.specs.NameList.{Text, names_after, place_of, Extends}
+use Rattle.dl_names.proofs.NameListLemmas.{Extends-same, Extends-trans, Extends-names_after, length-Extends, has_name-names_after, place_of-lt}
 use Rattle.dl_run.specs.Data.{IsData, none, line}
 use Rattle.dl_run.specs.Lines.{LineThen, Reads}
 use Rattle.dl_run.proofs.LineLemmas.{LineThen-unique}
@@ -19,7 +19,7 @@ fact_of p = Is p.0 p.1
 pub Extends-IsData : {bytes : List ℕ} {names after : List Text} {facts : List Fact} → IsData bytes names facts after → Extends names after
 Extends-IsData none = Extends-same _
 Extends-IsData (line {names = names} {who = who} {class = class} _ _ _ more) =
-    Extends-trans names (added (added names who) class) _ (Extends-trans names (added names who) _ (Extends-added names who) (Extends-added (added names who) class)) (Extends-IsData more)
+    Extends-trans names (names_after (names_after names who) class) _ (Extends-trans names (names_after names who) _ (Extends-names_after names who) (Extends-names_after (names_after names who) class)) (Extends-IsData more)
 
 -- what stands behind the first line of facts that are not empty
 pub record Front (bytes : List ℕ) (names : List Text) (facts : List Fact) (after : List Text) : Type 0 where
@@ -28,8 +28,8 @@ pub record Front (bytes : List ℕ) (names : List Text) (facts : List Fact) (aft
   pub rest : List ℕ
   pub more : List Fact
   pub first : LineThen bytes who class rest
-  pub behind : IsData rest (added (added names who) class) more after
-  pub is : facts ≡ Is (place_of (added (added names who) class) class) (place_of (added names who) who) ∷ more
+  pub behind : IsData rest (names_after (names_after names who) class) more after
+  pub is : facts ≡ Is (place_of (names_after (names_after names who) class) class) (place_of (names_after names who) who) ∷ more
 
 pub Front-IsData : (bytes : List ℕ) (names : List Text) (facts : List Fact) (after : List Text) → (bytes ≡ [] → ⊥) → IsData bytes names facts after → Front bytes names facts after
 Front-IsData bytes names facts after some none = absurd (some refl)
@@ -49,16 +49,16 @@ LineThen-some bytes who class rest first empty = let stands = first.stands in cc
 
 -- facts behind a line that stands at the front
 pub IsData-behind : (bytes : List ℕ) (names : List Text) (facts : List Fact) (after : List Text) (who class rest : List ℕ) → LineThen bytes who class rest → IsData bytes names facts after
-    → (more : List Fact) × IsData rest (added (added names who) class) more after × (facts ≡ Is (place_of (added (added names who) class) class) (place_of (added names who) who) ∷ more)
+    → (more : List Fact) × IsData rest (names_after (names_after names who) class) more after × (facts ≡ Is (place_of (names_after (names_after names who) class) class) (place_of (names_after names who) who) ∷ more)
 IsData-behind bytes names facts after who class rest first data_is =
     let front = Front-IsData bytes names facts after (LineThen-some bytes who class rest first) data_is in
     let same = LineThen-unique bytes front.who front.class front.rest who class rest front.first first in
-    let as_line = λ (x y : Text). Is (place_of (added (added names x) y) y) (place_of (added names x) x) in (
+    let as_line = λ (x y : Text). Is (place_of (names_after (names_after names x) y) y) (place_of (names_after names x) x) in (
       front.more,
-      (let there : IsData front.rest (added (added names front.who) front.class) front.more after = front.behind in
-          subst (λ (t : List ℕ). IsData t (added (added names who) class) front.more after) same.2
-          (subst (λ (t : List ℕ). IsData front.rest (added (added names who) t) front.more after) same.1
-          (subst (λ (t : List ℕ). IsData front.rest (added (added names t) front.class) front.more after) same.0 there))),
+      (let there : IsData front.rest (names_after (names_after names front.who) front.class) front.more after = front.behind in
+          subst (λ (t : List ℕ). IsData t (names_after (names_after names who) class) front.more after) same.2
+          (subst (λ (t : List ℕ). IsData front.rest (names_after (names_after names who) t) front.more after) same.1
+          (subst (λ (t : List ℕ). IsData front.rest (names_after (names_after names t) front.class) front.more after) same.0 there))),
       front.is ∙ (λ t. as_line (same.0 t) (same.1 t) ∷ front.more),
     )
 
@@ -70,7 +70,7 @@ IsData-unique {names = names} {other = other} {also = also} (line {bytes = bytes
     let first : LineThen bytes who class rest = record { who_name = who_name; class_name = class_name; stands = stands } in
     let there = IsData-behind bytes names also other who class rest first second in
     let same = IsData-unique behind there.1 in
-    ((λ t. Is (place_of (added (added names who) class) class) (place_of (added names who) who) ∷ same.0 t) ∙ sym there.2, same.1)
+    ((λ t. Is (place_of (names_after (names_after names who) class) class) (place_of (names_after names who) who) ∷ same.0 t) ∙ sym there.2, same.1)
 
 -- ---- reading line by line
 
@@ -90,28 +90,28 @@ Read-first bytes names = record {
 }
 
 module _ (bytes rest next : List ℕ) (names now then : List Text) (places placed : List (ℕ × ℕ)) (read : Read bytes rest names now places) (reads : Reads rest next now then places placed) where
-  who_in : place_of (added now reads.who) reads.who < length then
+  who_in : place_of (names_after now reads.who) reads.who < length then
   who_in =
-      let longer = length-Extends (added now reads.who) _ (Extends-added (added now reads.who) reads.class) in
-      omega (arith, place_of-lt (added now reads.who) reads.who (has_name-added now reads.who), longer, ap length reads.named)
+      let longer = length-Extends (names_after now reads.who) _ (Extends-names_after (names_after now reads.who) reads.class) in
+      omega (arith, place_of-lt (names_after now reads.who) reads.who (has_name-names_after now reads.who), longer, ap length reads.named)
 
   class_in : place_of then reads.class < length then
   class_in =
       subst (λ l. place_of l reads.class < length l) (sym reads.named)
-      (place_of-lt (added (added now reads.who) reads.class) reads.class (has_name-added (added now reads.who) reads.class))
+      (place_of-lt (names_after (names_after now reads.who) reads.class) reads.class (has_name-names_after (names_after now reads.who) reads.class))
 
   longer : length now ≤ length then
   longer =
-      let one = length-Extends now _ (Extends-added now reads.who) in
-      let two = length-Extends (added now reads.who) _ (Extends-added (added now reads.who) reads.class) in
+      let one = length-Extends now _ (Extends-names_after now reads.who) in
+      let two = length-Extends (names_after now reads.who) _ (Extends-names_after (names_after now reads.who) reads.class) in
       omega (arith, one, two, ap length reads.named)
 
   pub Read-next : Read bytes next names then placed
   Read-next = record {
     completed = λ facts after is.
-        let pair : ℕ × ℕ = (place_of then reads.class, place_of (added now reads.who) reads.who) in
+        let pair : ℕ × ℕ = (place_of then reads.class, place_of (names_after now reads.who) reads.who) in
         let here : IsData rest now (fact_of pair ∷ facts) after =
-        subst (λ l. IsData rest now (Is (place_of l reads.class) (place_of (added now reads.who) reads.who) ∷ facts) after) (sym reads.named)
+        subst (λ l. IsData rest now (Is (place_of l reads.class) (place_of (names_after now reads.who) reads.who) ∷ facts) after) (sym reads.named)
         (line reads.line.who_name reads.line.class_name reads.line.stands (subst (λ l. IsData next l facts after) reads.named is)) in
         let regroup : map fact_of places ++ fact_of pair ∷ facts ≡ map fact_of placed ++ facts =
         sym (append_assoc (map fact_of places) (fact_of pair ∷ []) facts) ∙ ap (λ l. l ++ facts) (sym (map-append fact_of places (pair ∷ [])) ∙ ap (map fact_of) (sym reads.last)) in
@@ -133,7 +133,7 @@ IsData-read bytes names now places read = rw append-nil at (read.completed [] no
 
 -- a line that is not there, or whose names do not fit, is in no facts whose names fit
 pub IsData-stops : (bytes : List ℕ) (names : List Text) (facts : List Fact) (after : List Text) (most : ℕ) → (bytes ≡ [] → ⊥)
-    → ((who class : Text) (rest : List ℕ) → LineThen bytes who class rest → length (added (added names who) class) ≤ most → ⊥) → IsData bytes names facts after → length after ≤ most → ⊥
+    → ((who class : Text) (rest : List ℕ) → LineThen bytes who class rest → length (names_after (names_after names who) class) ≤ most → ⊥) → IsData bytes names facts after → length after ≤ most → ⊥
 IsData-stops bytes names facts after most some stops data_is fits =
     let front = Front-IsData bytes names facts after some data_is in
     let longer = length-Extends _ _ (Extends-IsData front.behind) in

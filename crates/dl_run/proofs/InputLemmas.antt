@@ -6,10 +6,10 @@ use Rattle.std.specs.Ordering.{nat_cmp, ordering_then}
 use Rattle.std.specs.List.{Contains, All, AllByRecursion}
 use Rattle.std.specs.List.Sorted.{IsStrictlySortedBy}
 use Rattle.std.proofs.lemmas.List.{length-map}
-use Rattle.dl_names.specs.NameList.{Text, added}
+use Rattle.dl_names.specs.NameList.{Text, names_after}
 use Rattle.dl_names.specs.Frozen.{IsFrozen}
 use Rattle.dl_names.specs.NameList.{max_names}
-use Rattle.dl_names.proofs.NameListLemmas.{length-Extends, Extends-added}
+use Rattle.dl_names.proofs.NameListLemmas.{length-Extends, Extends-names_after}
 use Rattle.dl_io.specs.Files.{max_bytes}
 use Rattle.dl_terms.specs.Sets.{IsSetOf}
 use Rattle.dl_terms.specs.Order.{axiom_cmp, fact_cmp}
@@ -44,7 +44,7 @@ pub IsData-grows : {bytes : List ℕ} {names after : List Text} {facts : List Fa
 IsData-grows none = omega arith
 IsData-grows {names = names} (line {who = who} {class = class} _ _ _ behind) =
     let later = IsData-grows behind in
-    omega (arith, later, length-Extends names _ (Extends-added names who), length-Extends (added names who) _ (Extends-added (added names who) class))
+    omega (arith, later, length-Extends names _ (Extends-names_after names who), length-Extends (names_after names who) _ (Extends-names_after (names_after names who) class))
 
 -- the set of the images of a list's items, where the images are in the order of the items
 module _ {A B : Type 0} (cmp : A → A → Ordering) (by : B → B → Ordering) (f : A → B) (same : (x y : A) → by (f x) (f y) ≡ cmp x y) where

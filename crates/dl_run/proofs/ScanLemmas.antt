@@ -4,11 +4,11 @@ use Rattle.std.specs.List.{list_all, position_or_len}
 use Rattle.std.proofs.lemmas.Bool.{and_parts, lt-ltb}
 use Rattle.std.proofs.lemmas.List.{length-append}
 use Rattle.std.proofs.lemmas.Option.{cond_some}
-use Rattle.dl_names.specs.NameList.{Text, added, has_name, place_of}
+use Rattle.dl_names.specs.NameList.{Text, names_after, has_name, place_of}
 use Rattle.dl_names.specs.declared.fault.NameFault.{NameFault}
 use Rattle.dl_names.specs.declared.fault.NameFault.TheVariants as names
 use Rattle.dl_names.specs.declared.fault.NameFault.TheVariants.{Full}
-use Rattle.dl_names.proofs.NameListLemmas.{added-new}
+use Rattle.dl_names.proofs.NameListLemmas.{names_after-new}
 use Rattle.dl_run.specs.declared.fault.Fault.TheVariants.{NotBuilt}
 use Rattle.dl_run.specs.Faults.{fault_of}
 use Rattle.dl_run.specs.Iris.{is_iri_byte, IsName}
@@ -82,14 +82,14 @@ pub NameThen-unique : {bytes : List ℕ} {names : List Text} {place place' : ℕ
     → NameThen bytes names place rest after → NameThen bytes names place' rest' after' → (place ≡ place') × (rest ≡ rest') × (after ≡ after')
 NameThen-unique {bytes} {names} {place} {place'} {rest} {rest'} {after} {after'} h h' =
     let one = name_one bytes h.text h'.text rest rest' h.stands h.name h'.stands h'.name in
-    let same : after ≡ after' = h.named ∙ ap (added names) one.0 ∙ sym h'.named in
+    let same : after ≡ after' = h.named ∙ ap (names_after names) one.0 ∙ sym h'.named in
     (h.at ∙ ap (place_of after) one.0 ∙ ap (λ l. place_of l h'.text) same ∙ sym h'.at, one.1, same)
 
 -- a new name has no place among as many as may be
 pub no_room : (names : List Text) (text : Text) (after : List Text) (most : ℕ) → length names ≡ most → has_name names text ≡ false
-    → after ≡ added names text → length after ≤ most → ⊥
+    → after ≡ names_after names text → length after ≤ most → ⊥
 no_room names text after most full new is fits =
-    omega (arith, full, fits, ap length (is ∙ added-new names text new), length-append names (text ∷ []))
+    omega (arith, full, fits, ap length (is ∙ names_after-new names text new), length-append names (text ∷ []))
 
 -- a fault of the names is a fault of the file where there is no room
 pub full_fault : (fault : NameFault) → fault_of fault ≡ NotBuilt → fault ≡ Full

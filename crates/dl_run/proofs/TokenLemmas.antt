@@ -3,7 +3,7 @@ use Rattle.std.proofs.Common.{◌≡◌, ℕ, ◌+◌, ◌<◌, ◌≤◌, List,
 use Rattle.std.proofs.lemmas.Bool.{cond_both}
 use Rattle.std.proofs.lemmas.List.{length-append, append_cancel_left}
 use Rattle.dl_names.specs.NameList.{Text, has_name}
-use Rattle.dl_names.proofs.NameListLemmas.{Extends-added, length-Extends, has_name-added, place_of-lt}
+use Rattle.dl_names.proofs.NameListLemmas.{Extends-names_after, length-Extends, has_name-names_after, place_of-lt}
 use Rattle.dl_run.specs.Tokens.{is_blank, trimmed, WordThen, NameThen}
 
 pub length-trimmed : (bytes : List ℕ) → length (trimmed bytes) ≤ length bytes
@@ -25,10 +25,10 @@ module _ {bytes : List ℕ} {names : List Text} {place : ℕ} {rest : List ℕ} 
 
   -- names only grow
   pub NameThen-grows : length names ≤ length after
-  NameThen-grows = subst (λ l. length names ≤ length l) (sym next.named) (length-Extends names _ (Extends-added names next.text))
+  NameThen-grows = subst (λ l. length names ≤ length l) (sym next.named) (length-Extends names _ (Extends-names_after names next.text))
 
   -- the place is within the names
   pub NameThen-within : place < length after
   NameThen-within =
-      let named = subst (λ l. has_name l next.text ≡ true) (sym next.named) (has_name-added names next.text) in
+      let named = subst (λ l. has_name l next.text ≡ true) (sym next.named) (has_name-names_after names next.text) in
       omega (arith, next.at, place_of-lt after next.text named)

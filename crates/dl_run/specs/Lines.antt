@@ -1,6 +1,6 @@
 -- One line of facts as it is read.
 use Rattle.std.specs.Prelude.{◌≡◌, ℕ, List, [], ◌∷◌, ◌++◌}
-use Rattle.dl_names.specs.NameList.{Text, added, place_of}
+use Rattle.dl_names.specs.NameList.{Text, names_after, place_of}
 use Rattle.dl_run.specs.Iris.{IsName}
 use Rattle.dl_run.specs.Data.{class_line}
 
@@ -15,5 +15,5 @@ pub record Reads (bytes rest : List ℕ) (names after : List Text) (places place
   pub who : Text
   pub class : Text
   pub line : LineThen bytes who class rest
-  pub named : after ≡ added (added names who) class
-  pub last : placed ≡ places ++ (place_of after class, place_of (added names who) who) ∷ []
+  pub named : after ≡ names_after (names_after names who) class
+  pub last : placed ≡ places ++ (place_of after class, place_of (names_after names who) who) ∷ []

@@ -9,14 +9,14 @@ abbrev pub iri_of : List Text → ℕ → List ℕ
 iri_of names n = 60 ∷ unwrap_or (slice_get names n) [] ++ 62 ∷ []
 
 -- texts with a comma and a space between them
-abbrev pub listed : List Text → List ℕ
-listed [] = []
-listed (text ∷ []) = text
-listed (text ∷ next ∷ texts) = text ++ (codes ", " ++ listed (next ∷ texts))
+abbrev pub joined_texts : List Text → List ℕ
+joined_texts [] = []
+joined_texts (text ∷ []) = text
+joined_texts (text ∷ next ∷ texts) = text ++ (codes ", " ++ joined_texts (next ∷ texts))
 
 -- a tuple of names on a line
 abbrev pub tuple_line : List Text → List ℕ → List ℕ
-tuple_line names tuple = 40 ∷ listed (map (iri_of names) tuple) ++ 41 ∷ 10 ∷ []
+tuple_line names tuple = 40 ∷ joined_texts (map (iri_of names) tuple) ++ 41 ∷ 10 ∷ []
 
 -- how many facts there are, and how many triples were skipped
 abbrev pub facts_line : ℕ → ℕ → List ℕ

@@ -1,6 +1,6 @@
 -- Tokens with white space between them, in ontologies and queries, and names in the order in which they are first met.
 use Rattle.std.specs.Prelude.{◌≡◌, ℕ, Bool, ◌||◌, ◌==◌, List, [], ◌∷◌, ◌++◌, if◌then◌else◌}
-use Rattle.dl_names.specs.NameList.{Text, added, place_of}
+use Rattle.dl_names.specs.NameList.{Text, names_after, place_of}
 use Rattle.dl_run.specs.Iris.{IsName}
 
 -- white space: space, tab, carriage return and line feed
@@ -21,5 +21,5 @@ pub record NameThen (bytes : List ℕ) (names : List Text) (place : ℕ) (rest :
   pub text : Text
   pub stands : trimmed bytes ≡ 60 ∷ text ++ 62 ∷ rest
   pub name : IsName text
-  pub named : after ≡ added names text
+  pub named : after ≡ names_after names text
   pub at : place ≡ place_of after text

@@ -22,7 +22,8 @@ pub(crate) struct Asked {
     pub facts: Vec<(u32, u32)>,
     pub class: u32,
     ghost class_named: { class < length names },
-    ghost inclusions_named: { All (λ e. (e.0 < length names) × (e.1 < length names)) inclusions.items },
+    ghost inclusions_named: { All (λ e.
+        (e.0 < length names) × (e.1 < length names)) inclusions.items },
     ghost facts_named: { All (λ f. (f.0 < length names) × (f.1 < length names)) facts.items },
 }
 

@@ -65,7 +65,7 @@ fn ending(output: &Result<Output, Stop>) -> (Status, &str)
 }
 
 /// Writes a text, and answers the status that goes with it, or that writing failed.
-fn written<S: Sink>(sink: &mut S, status: Status, text: &str) -> Status
+fn write_text<S: Sink>(sink: &mut S, status: Status, text: &str) -> Status
     ensures all { result ≢ Status.WriteFault →
         (result ≡ status) × Gets (S.got sink.old) (S.got sink.new) text.now }
     ensures same { (result ≡ status) ⊎ (result ≡ Status.WriteFault) }
@@ -113,7 +113,8 @@ pub fn answer_command<L: Library, S: Sink>(
         (L.faults files.old) (L.faults files.new) (S.got sink.old) (S.got sink.new) }
     ensures usage { result ≡ Status.Usage → ⊥ }
 
-    ensures complete { IsComplete (L.told files.old) (AnswerOf ontology.now facts.now query.now limit)
+    ensures complete { IsComplete (L.told files.old)
+        (AnswerOf ontology.now facts.now query.now limit)
         (L.faults files.old) (L.faults files.new) (S.faults sink.old) (S.faults sink.new) result }
     ensures unchanged { L.told files.new ≡ L.told files.old }
     ensures reads { L.faults files.old ≤ L.faults files.new }
@@ -121,7 +122,7 @@ pub fn answer_command<L: Library, S: Sink>(
 {
     let output = output_of(alloc, files, ontology, facts, query, limit);
     let (status, text) = ending(&output);
-    written(sink, status, text)
+    write_text(sink, status, text)
 }
 
 /// The program: the words after its name, the files and the output. It answers `Usage` exactly where the words have no written form,
@@ -153,7 +154,8 @@ pub fn quest<L: Library, S: Sink>(
         HasRisen (L.faults files.old) (L.faults files.new)
         × Gets (S.got sink.old) (S.got sink.new) read_fault_text }
     ensures no_memory { result ≡ Status.NoMemory →
-        HasSomeForm (map string_bytes words.now) × Gets (S.got sink.old) (S.got sink.new) no_memory_text }
+        HasSomeForm (map string_bytes words.now) ×
+        Gets (S.got sink.old) (S.got sink.new) no_memory_text }
     ensures write_fault { result ≡ Status.WriteFault →
         HasRisen (S.faults sink.old) (S.faults sink.new) }
     ensures part { result ≡ Status.WriteFault →
@@ -177,7 +179,7 @@ pub fn quest<L: Library, S: Sink>(
             answer.query,
             answer.limit,
         ),
-        None => written(sink, Status::Usage, USAGE),
+        None => write_text(sink, Status::Usage, USAGE),
     }
 }
 
@@ -189,5 +191,5 @@ pub fn without_memory<S: Sink>(sink: &mut S) -> Status
         HasRisen (S.faults sink.old) (S.faults sink.new)
         × GetsPrefix (S.got sink.old) (S.got sink.new) no_memory_text }
 {
-    written(sink, Status::NoMemory, NO_MEMORY)
+    write_text(sink, Status::NoMemory, NO_MEMORY)
 }

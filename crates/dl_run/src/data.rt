@@ -3,7 +3,7 @@ ghost use Rattle.std.specs.Prelude.{◌≡◌, ◌<◌, ◌≤◌, ◌++◌, ℕ
 ghost use Rattle.std.specs.List.{All};
 ghost use Rattle.dl_terms.specs.declared.axiom.Fact.{Fact};
 ghost use Rattle.dl_terms.specs.declared.axiom.Fact.TheVariants.{Is};
-ghost use Rattle.dl_names.specs.NameList.{Text, added, max_names};
+ghost use Rattle.dl_names.specs.NameList.{Text, names_after, max_names};
 ghost use Rattle.dl_run.specs.Data.{IsData};
 ghost use Rattle.dl_run.specs.Lines.{LineThen, Reads};
 
@@ -55,7 +55,7 @@ fn read_line<'a>(
         Reads bytes.now rest.now names.old names.new places.old.items places.new.items) }
     ensures not_built { (result ≡ Err Fault.NotBuilt) →
         (who class : Text) (rest : List ℕ) → LineThen bytes.now who class rest →
-        length (added (added names.old who) class) ≤ max_names → ⊥ }
+        length (names_after (names_after names.old who) class) ≤ max_names → ⊥ }
     ensures shorter { IfOk result (λ rest. length rest.now < length bytes.now) }
 {
     let Some((who, class, rest)) = line_then(bytes) else {

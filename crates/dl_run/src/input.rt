@@ -55,7 +55,8 @@ fn numbered(
     class: u32,
 ) -> Result<Asked, Fault>
     requires class_placed { class < length names }
-    requires inclusions_placed { All (λ p. (p.0 < length names) × (p.1 < length names)) inclusions.items }
+    requires inclusions_placed { All (λ p.
+        (p.0 < length names) × (p.1 < length names)) inclusions.items }
     requires facts_placed { All (λ p. (p.0 < length names) × (p.1 < length names)) facts.items }
     ensures ok { IfOk result (λ a.
         IsNumbered names inclusions.items facts.items class

@@ -37,9 +37,10 @@ pub fn some_of_is_a_neighbour()
 pub fn answers_are_determined()
     ensures certain { (axioms : List Axiom) (facts : List Fact) (q : Query) (xs ys : List (List ℕ))
         → AreCertain axioms facts q xs → AreCertain axioms facts q ys → xs ≡ ys }
-    ensures broken { (axioms : List Axiom) (facts : List Fact) (nothing : Option ℕ) (a b : Option Axiom)
-        → IsFirstBroken axioms facts nothing a → IsFirstBroken axioms facts nothing b → a ≡ b }
-    ensures reply { (axioms : List Axiom) (facts : List Fact) (nothing : Option ℕ) (q : Query) (limit : ℕ)
-        (a b : Reply) → IsReply axioms facts nothing q limit a
+    ensures broken { (axioms : List Axiom) (facts : List Fact) (nothing : Option ℕ)
+        (a b : Option Axiom) →
+        IsFirstBroken axioms facts nothing a → IsFirstBroken axioms facts nothing b → a ≡ b }
+    ensures reply { (axioms : List Axiom) (facts : List Fact) (nothing : Option ℕ)
+        (q : Query) (limit : ℕ) (a b : Reply) → IsReply axioms facts nothing q limit a
         → IsReply axioms facts nothing q limit b → a ≡ b }
 {}

@@ -28,10 +28,12 @@ pub fn worked_examples()
     // With two As, a and c, each has a neighbour of its own.
     ensures not_shared { AreCertain (a_has_a_p ∷ []) a_and_c_are_as share_a_p
         ((name_a ∷ name_a ∷ []) ∷ (name_c ∷ name_c ∷ []) ∷ []) }
-    ensures none_for_two { ¬ IsCertain (a_has_a_p ∷ []) a_and_c_are_as share_a_p (name_a ∷ name_c ∷ []) }
+    ensures none_for_two { ¬ IsCertain (a_has_a_p ∷ []) a_and_c_are_as share_a_p
+        (name_a ∷ name_c ∷ []) }
 
     // What has an incoming P has an outgoing S: an unnamed neighbour has one too.
-    ensures unnamed_neighbours { IsCertain (a_has_a_p ∷ a_p_has_an_s ∷ []) (a_is_an_a ∷ []) has_a_p_with_an_s (name_a ∷ []) }
+    ensures unnamed_neighbours { IsCertain (a_has_a_p ∷ a_p_has_an_s ∷ []) (a_is_an_a ∷ [])
+        has_a_p_with_an_s (name_a ∷ []) }
 
     // No unnamed element is its own neighbour.
     ensures no_loop { (tuple : List ℕ) →
@@ -43,28 +45,31 @@ pub fn worked_examples()
     ensures seven_atoms { IsCertain (a_p_has_a_p ∷ []) (p_from_a_to_b ∷ []) seven_in_a_row [] }
 
     // P is below the inverse of S, and P(a, b).
-    ensures turned { AreCertain (p_is_a_turned_s ∷ []) (p_from_a_to_b ∷ []) is_s ((name_b ∷ name_a ∷ []) ∷ []) }
+    ensures turned { AreCertain (p_is_a_turned_s ∷ []) (p_from_a_to_b ∷ []) is_s
+        ((name_b ∷ name_a ∷ []) ∷ []) }
 {}
 
 /// The first broken axioms of small ontologies.
 pub fn broken_examples()
     // A below some P in C, what has an incoming P is a D, and C and D are disjoint.
-    ensures at_an_unnamed { IsFirstBroken a_filler_in_c_and_d (a_is_an_a ∷ []) None (Some c_and_d_are_disjoint) }
+    ensures at_an_unnamed { IsFirstBroken a_filler_in_c_and_d (a_is_an_a ∷ []) None
+        (Some c_and_d_are_disjoint) }
     ensures at_no_name { (n : ℕ) →
         HoldsAt a_filler_in_c_and_d (a_is_an_a ∷ []) (Class class_c) (individual n)
         → ¬ HoldsAt a_filler_in_c_and_d (a_is_an_a ∷ []) (Class class_d) (individual n) }
     ensures without_the_fact { NothingIsBroken a_filler_in_c_and_d [] None }
 
     // P is asymmetric and irreflexive, and P(a, a). Axioms are tested in their order.
-    ensures asymmetry_first { IsFirstBroken (p_is_asymmetric ∷ p_is_irreflexive ∷ []) (p_from_a_to_a ∷ []) None
-        (Some p_is_asymmetric) }
+    ensures asymmetry_first { IsFirstBroken (p_is_asymmetric ∷ p_is_irreflexive ∷ [])
+        (p_from_a_to_a ∷ []) None (Some p_is_asymmetric) }
     // However they are listed, their set has that order.
     ensures asymmetry_first_of_set { (axioms : List Axiom)
         → IsSetOf axiom_cmp axioms (p_is_irreflexive ∷ p_is_asymmetric ∷ [])
         → IsFirstBroken axioms (p_from_a_to_a ∷ []) None (Some p_is_asymmetric) }
 
     // A is below D, which stands for owl:Nothing.
-    ensures nothing_is_broken { IsFirstBroken (an_a_is_a_d ∷ []) (a_is_an_a ∷ []) (Some class_d) None }
+    ensures nothing_is_broken { IsFirstBroken (an_a_is_a_d ∷ []) (a_is_an_a ∷ [])
+        (Some class_d) None }
     ensures nothing_is_no_name { (axioms : List Axiom) (facts : List Fact) →
         ¬ IsFirstBroken axioms facts None None }
 
@@ -105,18 +110,22 @@ pub fn normal_form_examples()
         ∷ concept_in (SomeOf (inverse_of p_in_c)) (Class class_c)
         ∷ never (Basics (Class class_a) (Class class_d))
         ∷ [] }
-    ensures equivalent_classes { axiom_rows (EquivalentClasses (Class class_a ∷ SomeOf role_p ∷ Class class_d ∷ []))
+    ensures equivalent_classes { axiom_rows
+        (EquivalentClasses (Class class_a ∷ SomeOf role_p ∷ Class class_d ∷ []))
         ≡ concept_in (Class class_a) (SomeOf role_p)
         ∷ concept_in (SomeOf role_p) (Class class_d)
         ∷ concept_in (Class class_d) (Class class_a)
         ∷ [] }
-    ensures disjoint_classes { axiom_rows (DisjointClasses (Class class_a ∷ SomeOf role_p ∷ Class class_d ∷ []))
+    ensures disjoint_classes { axiom_rows
+        (DisjointClasses (Class class_a ∷ SomeOf role_p ∷ Class class_d ∷ []))
         ≡ never (Basics (Class class_a) (SomeOf role_p))
         ∷ never (Basics (Class class_a) (Class class_d))
         ∷ never (Basics (SomeOf role_p) (Class class_d))
         ∷ [] }
-    ensures sub_role { axiom_rows (SubRole role_p (inverse_of role_s)) ≡ role_in role_p (inverse_of role_s) ∷ [] }
-    ensures equivalent_roles { axiom_rows (EquivalentRoles (role_p ∷ role_s ∷ inverse_of role_p ∷ []))
+    ensures sub_role { axiom_rows (SubRole role_p (inverse_of role_s)) ≡
+        role_in role_p (inverse_of role_s) ∷ [] }
+    ensures equivalent_roles { axiom_rows
+        (EquivalentRoles (role_p ∷ role_s ∷ inverse_of role_p ∷ []))
         ≡ role_in role_p role_s
         ∷ role_in role_s (inverse_of role_p)
         ∷ role_in (inverse_of role_p) role_p
@@ -141,9 +150,11 @@ pub fn normal_form_examples()
         ∷ never (Basics (SomeOf (inverse_of role_s)) (Class class_d))
         ∷ [] }
     ensures symmetric { axiom_rows (Symmetric role_p) ≡ role_in role_p (inverse_of role_p) ∷ [] }
-    ensures asymmetric { axiom_rows (Asymmetric role_p) ≡ never (Roles role_p (inverse_of role_p)) ∷ [] }
+    ensures asymmetric { axiom_rows (Asymmetric role_p) ≡
+        never (Roles role_p (inverse_of role_p)) ∷ [] }
     ensures irreflexive { axiom_rows (Irreflexive role_p) ≡ never (NoLoop role_p) ∷ [] }
 
     // The inverse of an inverse is the role itself.
-    ensures of_an_inverse { axiom_rows (Symmetric (inverse_of role_p)) ≡ role_in (inverse_of role_p) role_p ∷ [] }
+    ensures of_an_inverse { axiom_rows (Symmetric (inverse_of role_p)) ≡
+        role_in (inverse_of role_p) role_p ∷ [] }
 {}

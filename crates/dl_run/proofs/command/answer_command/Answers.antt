@@ -10,7 +10,7 @@ returns-clause-part g c = λ is.
     let said = says _ _ _ _ out.result out.ensures.prints out.ensures.kind
     (λ e. if_some (g.L.Library.told c.args.files.now) (λ file_of none. not_built none refl refl) (out.ensures.not_built e))
     out.ensures.read_fault c.ending-status.result.0 c.ending-status.result.1.now c.ending-status.ensures in
-    (c.ending-status.result.0, c.ending-status.result.1.now, said, c.written.ensures.prefix (λ e. says_no_write_fault said (sym e ∙ is)))
+    (c.ending-status.result.0, c.ending-status.result.1.now, said, c.write_text.ensures.prefix (λ e. says_no_write_fault said (sym e ∙ is)))
 
 pub returns-clause-complete : goal.returns-clause-complete
 returns-clause-complete g c =
@@ -22,6 +22,6 @@ returns-clause-complete g c =
     let said = says told Prints before after out.result out.ensures.prints out.ensures.kind
     (λ e. if_some told (λ file_of none. not_built none refl refl) (out.ensures.not_built e))
     out.ensures.read_fault c.ending-status.result.0 c.ending-status.result.1.now c.ending-status.ensures in
-    complete told Prints before after _ _ c.ending-status.result.0 c.written.result c.written.ensures.same c.written.ensures.failed (says_no_write_fault said)
+    complete told Prints before after _ _ c.ending-status.result.0 c.write_text.result c.write_text.ensures.same c.write_text.ensures.failed (says_no_write_fault said)
     out.result c.ending-status.result.1.now c.ending-status.ensures out.ensures.only
     (λ e. if_some told (λ file_of none s t p. refused_only none p) (out.ensures.not_built e)) out.ensures.read_fault

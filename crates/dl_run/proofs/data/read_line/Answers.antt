@@ -1,8 +1,8 @@
 use Rattle.std.proofs.Common.{◌≡◌, ◌≤◌, Err, length, sym, ap, ◌∙◌, arith}
 use Rattle.std.proofs.lemmas.Result.{err_from_is_err_and}
-use Rattle.dl_names.specs.NameList.{added}
+use Rattle.dl_names.specs.NameList.{names_after}
 use Rattle.dl_names.specs.NameList.{max_names}
-use Rattle.dl_names.proofs.NameListLemmas.{Extends-added, length-Extends}
+use Rattle.dl_names.proofs.NameListLemmas.{Extends-names_after, length-Extends}
 use Rattle.dl_run.proofs.LineLemmas.{LineThen-unique}
 use Rattle.dl_run.proofs.ScanLemmas.{no_room, full_fault}
 use Rattle.dl_run.proofs.data.read_line.Goals as goal
@@ -17,9 +17,9 @@ returns-in_err-who-clause-not_built c =
     rw p.1 (λ h who class rest line fits.
     let full = (c.in_err-who.ensures.full).0 (ap Err (full_fault c.in_err-who.field-0.0 (cc (p.2, h)))) in
     let same = LineThen-unique c.args.bytes.now c.in-Some.who.now c.in-Some.class.now c.in-Some.rest.now who class rest c.in-Some.ensures.found line in
-    let longer = length-Extends (added names who) (added (added names who) class) (Extends-added (added names who) class) in
-    let fits_before : length (added names who) ≤ max_names = omega (arith, longer, fits) in
-    no_room names c.in-Some.who.now (added names who) max_names full.0 full.1 (ap (added names) (sym same.0)) fits_before)
+    let longer = length-Extends (names_after names who) (names_after (names_after names who) class) (Extends-names_after (names_after names who) class) in
+    let fits_before : length (names_after names who) ≤ max_names = omega (arith, longer, fits) in
+    no_room names c.in-Some.who.now (names_after names who) max_names full.0 full.1 (ap (names_after names) (sym same.0)) fits_before)
 
 pub returns-in_err-class-clause-not_built : goal.returns-in_err-class-clause-not_built
 returns-in_err-class-clause-not_built c =
@@ -28,5 +28,5 @@ returns-in_err-class-clause-not_built c =
     rw p.1 (λ h who class rest line fits.
     let full = (c.in_err-class.ensures.full).0 (ap Err (full_fault c.in_err-class.field-0.0 (cc (p.2, h)))) in
     let same = LineThen-unique c.args.bytes.now c.in-Some.who.now c.in-Some.class.now c.in-Some.rest.now who class rest c.in-Some.ensures.found line in
-    let before : added names who ≡ c.add.new.self = ap (added names) (sym same.0) ∙ sym c.in_ok-who.ensures.named in
-    no_room c.add.new.self c.in-Some.class.now (added (added names who) class) max_names full.0 full.1 (λ t. added (before t) (sym same.1 t)) fits)
+    let before : names_after names who ≡ c.add.new.self = ap (names_after names) (sym same.0) ∙ sym c.in_ok-who.ensures.named in
+    no_room c.add.new.self c.in-Some.class.now (names_after (names_after names who) class) max_names full.0 full.1 (λ t. names_after (before t) (sym same.1 t)) fits)
