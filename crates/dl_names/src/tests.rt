@@ -42,3 +42,22 @@ fn places_by_first_occurrence_and_ranks_by_bytes(rt: HostRuntime) {
         assert_eq!(rt; ranks.of(place), rank, "at {place}");
     }
 }
+
+// With a growth refused, as by `rt try --test --fail-alloc N`, the names are as before, so that a second try gives the same place.
+#[test]
+fn a_second_try_after_a_refusal(rt: HostRuntime) {
+    let mut set = NameSet::new(rt.alloc());
+    for (text, place) in [
+        ("b", 0u32),
+        ("a", 1),
+        ("b", 0),
+        ("a-long-name-of-more-than-one-word", 2),
+        ("a", 1),
+    ] {
+        let added = match set.add(text) {
+            Err(NameFault::NoMemory) => set.add(text),
+            other => other,
+        };
+        assert_eq!(rt; added, Ok(place), "at {text}");
+    }
+}
