@@ -6,6 +6,3 @@ pub mod BelowLemmas
 pub mod StructureLemmas
 pub mod AnswerLemmas
 pub mod MatchLemmas
-pub mod ExampleLemmas
-pub mod BrokenExampleLemmas
-pub mod ReplyExampleLemmas

@@ -45,30 +45,30 @@ head_two u v (x ∷ y ∷ z ∷ tuple) e = let l = ap length e in absurd (omega 
 
 -- ---- matches written out
 
--- the variables stand for the elements of a list, by place
-abbrev pub by_place : List Element → ℕ → Element
-by_place elements v = slice_index_or elements v (individual 0)
+-- the variables stand for the elements of a list, by index
+abbrev pub by_index : List Element → ℕ → Element
+by_index elements v = slice_index_or elements v (individual 0)
 
-pub IsMatch-by_place : (axioms : List Axiom) (facts : List Fact) (q : Query) (elements : List Element) → q.vars ≡ length elements
-    → AllByRecursion (IsElement axioms facts) elements → AllByRecursion (AtomHolds axioms facts (by_place elements)) q.atoms
-    → IsMatch axioms facts q (by_place elements)
-IsMatch-by_place axioms facts q elements count each atoms = record {
+pub IsMatch-by_index : (axioms : List Axiom) (facts : List Fact) (q : Query) (elements : List Element) → q.vars ≡ length elements
+    → AllByRecursion (IsElement axioms facts) elements → AllByRecursion (AtomHolds axioms facts (by_index elements)) q.atoms
+    → IsMatch axioms facts q (by_index elements)
+IsMatch-by_index axioms facts q elements count each atoms = record {
   elements = λ v h. All-from_recursion (IsElement axioms facts) elements each v (individual 0) (subst (λ n. v < n) count h);
-  atoms = λ a c. All-Contains (AtomHolds axioms facts (by_place elements)) q.atoms a
-      (All-from_recursion (AtomHolds axioms facts (by_place elements)) q.atoms atoms) c;
+  atoms = λ a c. All-Contains (AtomHolds axioms facts (by_index elements)) q.atoms a
+      (All-from_recursion (AtomHolds axioms facts (by_index elements)) q.atoms atoms) c;
 }
 
-pub IsCertain-by_place : (axioms : List Axiom) (facts : List Fact) (q : Query) (tuple : List ℕ) (elements : List Element)
+pub IsCertain-by_index : (axioms : List Axiom) (facts : List Fact) (q : Query) (tuple : List ℕ) (elements : List Element)
     → q.vars ≡ length elements → AllByRecursion (IsElement axioms facts) elements
-    → AllByRecursion (AtomHolds axioms facts (by_place elements)) q.atoms → map (by_place elements) q.head ≡ map individual tuple
+    → AllByRecursion (AtomHolds axioms facts (by_index elements)) q.atoms → map (by_index elements) q.head ≡ map individual tuple
     → IsCertain axioms facts q tuple
-IsCertain-by_place axioms facts q tuple elements count each atoms head =
-    record { elements = by_place elements; is_match = IsMatch-by_place axioms facts q elements count each atoms; is_head = head }
+IsCertain-by_index axioms facts q tuple elements count each atoms head =
+    record { elements = by_index elements; is_match = IsMatch-by_index axioms facts q elements count each atoms; is_head = head }
 
-pub IsMet-by_place : (axioms : List Axiom) (facts : List Fact) (n : Negative) (elements : List Element) → (query_of n).vars ≡ length elements
-    → AllByRecursion (IsElement axioms facts) elements → AllByRecursion (AtomHolds axioms facts (by_place elements)) (query_of n).atoms
+pub IsMet-by_index : (axioms : List Axiom) (facts : List Fact) (n : Negative) (elements : List Element) → (query_of n).vars ≡ length elements
+    → AllByRecursion (IsElement axioms facts) elements → AllByRecursion (AtomHolds axioms facts (by_index elements)) (query_of n).atoms
     → IsMet axioms facts n
-IsMet-by_place axioms facts n elements count each atoms = (by_place elements, IsMatch-by_place axioms facts (query_of n) elements count each atoms)
+IsMet-by_index axioms facts n elements count each atoms = (by_index elements, IsMatch-by_index axioms facts (query_of n) elements count each atoms)
 
 -- ---- over class facts alone
 

@@ -12,4 +12,3 @@ pub mod Table
 pub mod Order
 pub mod Sets
 pub mod Renamed
-pub mod Examples

@@ -10,7 +10,6 @@ mod query;
 mod role;
 mod steps;
 mod tuples;
-pub mod worked_examples;
 
 pub use axiom::{Axiom, Fact, Part, Signature};
 pub use list::List;

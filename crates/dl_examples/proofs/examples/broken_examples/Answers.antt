@@ -1,5 +1,5 @@
-use Rattle.dl_terms.proofs.BrokenExampleLemmas.{broken_at_an_unnamed, no_name_in_both, nothing_without_the_fact, asymmetry_first, asymmetry_first_of_set, nothing_is_broken, nothing_is_no_name, disjoint_from_itself}
-use Rattle.dl_terms.proofs.worked_examples.broken_examples.Goals as goal
+use Rattle.dl_examples.proofs.BrokenExampleLemmas.{broken_at_an_unnamed, no_name_in_both, nothing_without_the_fact, asymmetry_first, asymmetry_first_of_set, nothing_is_broken, nothing_is_no_name, disjoint_from_itself}
+use Rattle.dl_examples.proofs.examples.broken_examples.Goals as goal
 
 pub returns-clause-at_an_unnamed : goal.returns-clause-at_an_unnamed
 returns-clause-at_an_unnamed c = broken_at_an_unnamed

@@ -9,7 +9,7 @@ use Rattle.dl_terms.specs.Below.{RoleBelow, RoleStep, ConceptBelow}
 use Rattle.dl_terms.specs.NormalForm.{concept_inclusions}
 use Rattle.dl_terms.specs.Structure.{HoldsAtName, by_class, by_target, Element, individual, child, Follows, IsElement, Joins, by_fact, by_fact_turned, to_child, from_child}
 use Rattle.dl_terms.specs.Answers.{IsCertain, AreCertain, AscendStrictly}
-use Rattle.dl_terms.specs.Examples.{class_a, property_p, property_s, name_a, name_b, name_c, link, a_is_an_a, a_has_a_p, a_p_has_an_s, a_p_has_a_p, p_is_a_turned_s, has_a_p, is_p, share_a_p, has_a_p_with_an_s, some_loop, seven_in_a_row, is_s}
+use Rattle.dl_examples.specs.Examples.{class_a, property_p, property_s, name_a, name_b, name_c, link, a_is_an_a, a_has_a_p, a_p_has_an_s, a_p_has_a_p, p_is_a_turned_s, has_a_p, is_p, share_a_p, has_a_p_with_an_s, some_loop, seven_in_a_row, is_s}
 use Rattle.dl_terms.specs.declared.role.Role.{Role}
 use Rattle.dl_terms.specs.declared.role.Basic.TheVariants as basic
 use Rattle.dl_terms.specs.declared.axiom.Axiom.{Axiom}
@@ -18,7 +18,7 @@ use Rattle.dl_terms.specs.declared.axiom.Fact.TheVariants as fact
 use Rattle.dl_terms.proofs.MemberLemmas.{Contains-one, Contains-two}
 use Rattle.dl_terms.proofs.BelowLemmas.{Chain-one, RoleBelow-keeps, ConceptBelow-inclusion}
 use Rattle.dl_terms.proofs.StructureLemmas.{child-word, individual-child, child-itself, child-injective}
-use Rattle.dl_terms.proofs.MatchLemmas.{head_two, IsCertain-by_place, HoldsAtName-class, Joins-child, Joins-individuals, is_role_of}
+use Rattle.dl_terms.proofs.MatchLemmas.{head_two, IsCertain-by_index, HoldsAtName-class, Joins-child, Joins-individuals, is_role_of}
 
 abbrev p : Role
 p = named property_p
@@ -35,7 +35,7 @@ has_p axioms facts a c f = by_class f (ConceptBelow-inclusion axioms c)
 
 pub unnamed_neighbour : IsCertain (a_has_a_p ∷ []) (a_is_an_a ∷ []) has_a_p (name_a ∷ [])
 unnamed_neighbour =
-    IsCertain-by_place (a_has_a_p ∷ []) (a_is_an_a ∷ []) has_a_p (name_a ∷ []) (individual name_a ∷ child (individual name_a) p ∷ []) refl
+    IsCertain-by_index (a_has_a_p ∷ []) (a_is_an_a ∷ []) has_a_p (name_a ∷ []) (individual name_a ∷ child (individual name_a) p ∷ []) refl
     (tt, ((has_p (a_has_a_p ∷ []) (a_is_an_a ∷ []) name_a (0, lit< tt, refl) (0, lit< tt, refl), tt), tt)) (to_child refl empty, tt) refl
 
 pub no_named_neighbour : (tuple : List ℕ) → IsCertain (a_has_a_p ∷ []) (a_is_an_a ∷ []) is_p tuple → ⊥
@@ -51,7 +51,7 @@ both = fact.Is class_a name_a ∷ fact.Is class_a name_c ∷ []
 
 shared_by : (a : ℕ) → Contains both (fact.Is class_a a) → IsCertain (a_has_a_p ∷ []) both share_a_p (a ∷ a ∷ [])
 shared_by a f =
-    IsCertain-by_place (a_has_a_p ∷ []) both share_a_p (a ∷ a ∷ []) (individual a ∷ individual a ∷ child (individual a) p ∷ []) refl
+    IsCertain-by_index (a_has_a_p ∷ []) both share_a_p (a ∷ a ∷ []) (individual a ∷ individual a ∷ child (individual a) p ∷ []) refl
     (tt, (tt, ((has_p (a_has_a_p ∷ []) both a (0, lit< tt, refl) f, tt), tt))) (to_child refl empty, (to_child refl empty, tt)) refl
 
 who_of : Fact → ℕ
@@ -148,7 +148,7 @@ pub unnamed_neighbours : IsCertain along (a_is_an_a ∷ []) has_a_p_with_an_s (n
 unnamed_neighbours =
     let first = has_p along (a_is_an_a ∷ []) name_a (0, lit< tt, refl) (0, lit< tt, refl) in
     let next : ConceptBelow along (basic.SomeOf (inverse_of p)) (basic.SomeOf s) = ConceptBelow-inclusion along (1, lit< tt, refl) in
-    IsCertain-by_place along (a_is_an_a ∷ []) has_a_p_with_an_s (name_a ∷ [])
+    IsCertain-by_index along (a_is_an_a ∷ []) has_a_p_with_an_s (name_a ∷ [])
     (individual name_a ∷ child (individual name_a) p ∷ child (child (individual name_a) p) s ∷ []) refl
     (tt, ((first, tt), ((first, (next, tt)), tt))) (to_child refl empty, (to_child refl empty, tt)) refl
 
@@ -190,7 +190,7 @@ words_of_any_length n = (far n, far_element n, length-replicate n p)
 
 pub seven_atoms : IsCertain endless a_b seven_in_a_row []
 seven_atoms =
-    IsCertain-by_place endless a_b seven_in_a_row [] (far 0 ∷ far 1 ∷ far 2 ∷ far 3 ∷ far 4 ∷ far 5 ∷ far 6 ∷ far 7 ∷ []) refl
+    IsCertain-by_index endless a_b seven_in_a_row [] (far 0 ∷ far 1 ∷ far 2 ∷ far 3 ∷ far 4 ∷ far 5 ∷ far 6 ∷ far 7 ∷ []) refl
     (far_element 0, (far_element 1, (far_element 2, (far_element 3, (far_element 4, (far_element 5, (far_element 6, (far_element 7, tt))))))))
     (to_child refl empty, (to_child refl empty, (to_child refl empty, (to_child refl empty, (to_child refl empty, (to_child refl empty, (to_child refl empty, tt)))))))
     refl
@@ -242,7 +242,7 @@ only_turned tuple c =
 
 turned_certain : IsCertain turning a_b is_s (name_b ∷ name_a ∷ [])
 turned_certain =
-    IsCertain-by_place turning a_b is_s (name_b ∷ name_a ∷ []) (individual name_b ∷ individual name_a ∷ []) refl (tt, (tt, tt))
+    IsCertain-by_index turning a_b is_s (name_b ∷ name_a ∷ []) (individual name_b ∷ individual name_a ∷ []) refl (tt, (tt, tt))
     (by_fact_turned refl refl (0, lit< tt, refl) turned_below, tt) refl
 
 one_ascends : AscendStrictly ((name_b ∷ name_a ∷ []) ∷ [])

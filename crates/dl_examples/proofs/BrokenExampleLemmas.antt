@@ -12,7 +12,7 @@ use Rattle.dl_terms.specs.Structure.{HoldsAtName, by_class, individual, child, H
 use Rattle.dl_terms.specs.Broken.{IsMet, IsFirstBroken, NothingIsBroken}
 use Rattle.dl_terms.specs.Order.{axiom_cmp}
 use Rattle.dl_terms.specs.Sets.{IsSetOf}
-use Rattle.dl_terms.specs.Examples.{class_a, class_c, class_d, property_p, name_a, a_is_an_a, a_filler_in_c_and_d, c_and_d_are_disjoint, p_is_asymmetric, p_is_irreflexive, an_a_is_a_d, a_is_disjoint_from_itself}
+use Rattle.dl_examples.specs.Examples.{class_a, class_c, class_d, property_p, name_a, a_is_an_a, a_filler_in_c_and_d, c_and_d_are_disjoint, p_is_asymmetric, p_is_irreflexive, an_a_is_a_d, a_is_disjoint_from_itself}
 use Rattle.dl_terms.specs.declared.role.Role.{Role}
 use Rattle.dl_terms.specs.declared.role.Basic.TheVariants as basic
 use Rattle.dl_terms.specs.declared.role.Negative.{Negative}
@@ -27,7 +27,7 @@ use Rattle.dl_terms.proofs.BelowLemmas.{Chain-one, ConceptBelow-keeps, ConceptBe
 use Rattle.dl_terms.proofs.StructureLemmas.{individual-child}
 use Rattle.dl_terms.proofs.AnswerLemmas.{IsSetOf-unique}
 use Rattle.dl_terms.proofs.OrderLemmas.{axioms_linear}
-use Rattle.dl_terms.proofs.MatchLemmas.{IsMet-by_place, HoldsAtName-class, HoldsAt-no_fact, is_one_of}
+use Rattle.dl_terms.proofs.MatchLemmas.{IsMet-by_index, HoldsAtName-class, HoldsAt-no_fact, is_one_of}
 
 -- where the first negative of all is met, its axiom is the first broken one
 IsFirstBroken-head : (axioms : List Axiom) (facts : List Fact) (nothing : Option ℕ) (broken : Option Axiom) (n : Negative)
@@ -65,7 +65,7 @@ filled = by_class (0, lit< tt, refl) (ConceptBelow-inclusion filling (0, lit< tt
 pub broken_at_an_unnamed : IsFirstBroken filling a_is None (Some c_and_d_are_disjoint)
 broken_at_an_unnamed =
     IsFirstBroken-head filling a_is None (Some c_and_d_are_disjoint) (Basics (basic.Class class_c) (basic.Class class_d)) [] refl
-    (IsMet-by_place filling a_is (Basics (basic.Class class_c) (basic.Class class_d)) (child (individual name_a) u ∷ []) refl ((filled, tt), tt)
+    (IsMet-by_index filling a_is (Basics (basic.Class class_c) (basic.Class class_d)) (child (individual name_a) u ∷ []) refl ((filled, tt), tt)
     (at_end (individual name_a) u refl in_c, (at_end (individual name_a) u refl in_d, tt)))
 
 class_of : Fact → ℕ
@@ -102,7 +102,7 @@ loop = fact.Link property_p name_a name_a ∷ []
 pub asymmetry_first : IsFirstBroken both loop None (Some p_is_asymmetric)
 asymmetry_first =
     IsFirstBroken-head both loop None (Some p_is_asymmetric) (Roles p (inverse_of p)) (negatives (p_is_irreflexive ∷ []) None) refl
-    (IsMet-by_place both loop (Roles p (inverse_of p)) (individual name_a ∷ individual name_a ∷ []) refl (tt, (tt, tt))
+    (IsMet-by_index both loop (Roles p (inverse_of p)) (individual name_a ∷ individual name_a ∷ []) refl (tt, (tt, tt))
     (by_fact refl refl (0, lit< tt, refl) empty, (by_fact refl refl (0, lit< tt, refl) empty, tt)))
 
 both_ascend : IsStrictlySortedBy axiom_cmp both
@@ -135,7 +135,7 @@ asymmetry_first_of_set axioms set =
 pub nothing_is_broken : IsFirstBroken (an_a_is_a_d ∷ []) a_is (Some class_d) None
 nothing_is_broken =
     IsFirstBroken-head (an_a_is_a_d ∷ []) a_is (Some class_d) None (Basics (basic.Class class_d) (basic.Class class_d)) [] refl
-    (IsMet-by_place (an_a_is_a_d ∷ []) a_is (Basics (basic.Class class_d) (basic.Class class_d)) (individual name_a ∷ []) refl (tt, tt)
+    (IsMet-by_index (an_a_is_a_d ∷ []) a_is (Basics (basic.Class class_d) (basic.Class class_d)) (individual name_a ∷ []) refl (tt, tt)
     (held, (held, tt)))
   where
     held : HoldsAt (an_a_is_a_d ∷ []) a_is (basic.Class class_d) (individual name_a)
@@ -173,7 +173,7 @@ pub disjoint_from_itself : IsFirstBroken (a_is_disjoint_from_itself ∷ []) a_is
 disjoint_from_itself =
     IsFirstBroken-head (a_is_disjoint_from_itself ∷ []) a_is None (Some a_is_disjoint_from_itself) (Basics (basic.Class class_a) (basic.Class class_a))
     [] refl
-    (IsMet-by_place (a_is_disjoint_from_itself ∷ []) a_is (Basics (basic.Class class_a) (basic.Class class_a)) (individual name_a ∷ []) refl (tt, tt)
+    (IsMet-by_index (a_is_disjoint_from_itself ∷ []) a_is (Basics (basic.Class class_a) (basic.Class class_a)) (individual name_a ∷ []) refl (tt, tt)
     (held, (held, tt)))
   where
     held : HoldsAt (a_is_disjoint_from_itself ∷ []) a_is (basic.Class class_a) (individual name_a)

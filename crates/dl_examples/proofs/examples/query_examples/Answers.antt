@@ -1,5 +1,5 @@
-use Rattle.dl_terms.proofs.ReplyExampleLemmas.{eight_existential, nine_existential, no_safe_head}
-use Rattle.dl_terms.proofs.worked_examples.query_examples.Goals as goal
+use Rattle.dl_examples.proofs.ReplyExampleLemmas.{eight_existential, nine_existential, no_safe_head}
+use Rattle.dl_examples.proofs.examples.query_examples.Goals as goal
 
 pub returns-clause-eight_existential : goal.returns-clause-eight_existential
 returns-clause-eight_existential c = eight_existential

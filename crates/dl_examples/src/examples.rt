@@ -9,7 +9,7 @@ ghost use Rattle.dl_terms.specs.Order.{axiom_cmp};
 ghost use Rattle.dl_terms.specs.Queries.{IsWellFormed};
 ghost use Rattle.dl_terms.specs.Reply.{IsReply, found, too_many, inconsistent};
 ghost use Rattle.dl_terms.specs.Sets.{IsSetOf};
-ghost use Rattle.dl_terms.specs.Examples.{class_a, class_c, class_d, role_p, role_s, p_in_c, name_a, name_b, name_c, a_is_an_a, a_and_c_are_as, p_from_a_to_b, p_from_a_to_a, a_has_a_p, a_p_has_an_s, a_p_has_a_p, p_is_a_turned_s, a_filler_in_c_and_d, c_and_d_are_disjoint, p_is_asymmetric, p_is_irreflexive, an_a_is_a_d, a_is_disjoint_from_itself, has_a_p, is_p, share_a_p, has_a_p_with_an_s, some_loop, seven_in_a_row, is_s, unsafe_head, has_neighbours};
+ghost use Rattle.dl_examples.specs.Examples.{class_a, class_c, class_d, role_p, role_s, p_in_c, name_a, name_b, name_c, a_is_an_a, a_and_c_are_as, p_from_a_to_b, p_from_a_to_a, a_has_a_p, a_p_has_an_s, a_p_has_a_p, p_is_a_turned_s, a_filler_in_c_and_d, c_and_d_are_disjoint, p_is_asymmetric, p_is_irreflexive, an_a_is_a_d, a_is_disjoint_from_itself, has_a_p, is_p, share_a_p, has_a_p_with_an_s, some_loop, seven_in_a_row, is_s, unsafe_head, has_neighbours};
 ghost use Rattle.dl_terms.specs.declared.role.Basic.TheVariants.{Class, SomeOf};
 ghost use Rattle.dl_terms.specs.declared.role.Negative.TheVariants.{Basics, Roles, NoLoop};
 ghost use Rattle.dl_terms.specs.declared.axiom.Part.TheVariants as part;
@@ -19,7 +19,7 @@ ghost use Rattle.dl_terms.specs.declared.axiom.Fact.{Fact};
 ghost use Rattle.dl_terms.specs.declared.query.Query.{Query};
 
 /// The certain answers of small ontologies.
-pub fn worked_examples()
+pub fn answer_examples()
     // A is below "some P", and a is an A: a has a neighbour without a name, and none with one.
     ensures unnamed_neighbour { IsCertain (a_has_a_p ∷ []) (a_is_an_a ∷ []) has_a_p (name_a ∷ []) }
     ensures no_named_neighbour { (tuple : List ℕ) →

@@ -1,5 +1,5 @@
-use Rattle.dl_terms.proofs.ExampleLemmas.{unnamed_neighbour, no_named_neighbour, not_shared, none_for_two, unnamed_neighbours, no_loop, words_of_any_length, seven_atoms, turned}
-use Rattle.dl_terms.proofs.worked_examples.worked_examples.Goals as goal
+use Rattle.dl_examples.proofs.AnswerExampleLemmas.{unnamed_neighbour, no_named_neighbour, not_shared, none_for_two, unnamed_neighbours, no_loop, words_of_any_length, seven_atoms, turned}
+use Rattle.dl_examples.proofs.examples.answer_examples.Goals as goal
 
 pub returns-clause-unnamed_neighbour : goal.returns-clause-unnamed_neighbour
 returns-clause-unnamed_neighbour c = unnamed_neighbour

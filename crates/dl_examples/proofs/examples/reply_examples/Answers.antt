@@ -1,5 +1,5 @@
-use Rattle.dl_terms.proofs.ReplyExampleLemmas.{as_many_as_the_limit, one_over_the_limit, broken_reply}
-use Rattle.dl_terms.proofs.worked_examples.reply_examples.Goals as goal
+use Rattle.dl_examples.proofs.ReplyExampleLemmas.{as_many_as_the_limit, one_over_the_limit, broken_reply}
+use Rattle.dl_examples.proofs.examples.reply_examples.Goals as goal
 
 pub returns-clause-as_many_as_the_limit : goal.returns-clause-as_many_as_the_limit
 returns-clause-as_many_as_the_limit c = as_many_as_the_limit

@@ -1,0 +1,3 @@
+mod AnswerExampleLemmas
+mod BrokenExampleLemmas
+mod ReplyExampleLemmas
