@@ -1,4 +1,3 @@
-pub mod SetLemmas
 pub mod PartLemmas
 pub mod MarkLemmas
 pub mod ChainLemmas

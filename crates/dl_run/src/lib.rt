@@ -13,7 +13,6 @@ mod output;
 mod question;
 mod ranked;
 mod scan;
-mod sets;
 mod status;
 mod stop;
 mod texts;

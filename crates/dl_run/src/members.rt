@@ -6,7 +6,7 @@ ghost use Rattle.dl_terms.specs.Broken.{NothingIsBroken};
 ghost use Rattle.dl_run.specs.Members.{members_of, inclusions_of, class_facts_of, singles};
 
 use crate::chain::classes_below;
-use crate::sets::set_of;
+use dl_terms::{List, set_of};
 use std::alloc::{AllocError, Global};
 
 /// The members of a class: the individuals with a fact of a class from which a chain of inclusions leads to it.
@@ -30,7 +30,7 @@ pub(crate) fn members(
 {
     let below = classes_below(alloc, inclusions, class, names)?;
     let found = individuals_in(alloc, facts, below.as_slice())?;
-    Ok(set_of(found))
+    Ok(set_of(List::of(found)).into_vec())
 }
 
 /// The individuals of the facts whose class is marked.

@@ -5,8 +5,8 @@ ghost use Rattle.dl_terms.specs.Sets.{IsSetOf};
 ghost use Rattle.dl_run.specs.Numbered.{pair_cmp};
 ghost use Rattle.dl_run.specs.Ranked.{ranked_pair};
 
-use crate::sets::set_of;
 use dl_names::Ranks;
+use dl_terms::{List, set_of};
 
 /// Replaces the two places of each pair by their ranks.
 pub(crate) fn rank_pairs(ranks: &Ranks, pairs: &mut [(u32, u32)])
@@ -26,5 +26,5 @@ pub(crate) fn ranked_set(ranks: &Ranks, pairs: Vec<(u32, u32)>) -> Vec<(u32, u32
 {
     let mut pairs = pairs;
     rank_pairs(ranks, pairs.as_mut_slice());
-    set_of(pairs)
+    set_of(List::of(pairs)).into_vec()
 }

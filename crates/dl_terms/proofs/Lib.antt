@@ -6,3 +6,5 @@ pub mod BelowLemmas
 pub mod StructureLemmas
 pub mod AnswerLemmas
 pub mod MatchLemmas
+pub mod SetLemmas
+pub mod ListLemmas

@@ -12,3 +12,4 @@ pub mod Table
 pub mod Order
 pub mod Sets
 pub mod Renamed
+pub mod Lending

@@ -8,6 +8,7 @@ mod memory;
 mod order;
 mod query;
 mod role;
+mod sets;
 mod steps;
 mod tuples;
 
@@ -17,6 +18,7 @@ pub use memory::NoMemory;
 pub use order::{axioms_are_ordered, facts_are_ordered, roles_are_ordered};
 pub use query::{Atom, Disjunct, Probe, Query, Term};
 pub use role::{Base, Basic, Negative, Normal, Role};
+pub use sets::set_of;
 pub use steps::Steps;
 pub use tuples::{Pair, Tuples};
 

@@ -1,11 +1,11 @@
 // A list that contracts see as the list of its items.
 ghost use Rattle.std.specs.Prelude.{◌≡◌, ◌∷◌, ◌++◌, [], length, OnOk, OnErr, option_copied, slice_get};
+ghost use Rattle.std.specs.Borrow.{sem};
 ghost use Rattle.std.specs.Cmp.Lexicographic.{pointwise, slice_cmp, slice_partial_cmp, lists_equiv, lists_agrees, lists_total, lists_ties, lists_per, lists_po};
 
 use crate::NoMemory;
 use std::alloc::Global;
 use std::cmp::Ordering;
-use std::fmt;
 use std::marker::Model;
 
 /// A list of values that clauses compare: a vector of which contracts see the items alone.
@@ -23,6 +23,8 @@ impl<T> Model for List<T> {
 }
 
 impl<T> List<T> {
+    ghost use Rattle.dl_terms.specs.Lending.{LendsItems};
+
     /// The empty list. It takes no memory.
     pub fn new(alloc: Global) -> List<T>
         ensures { result ≡ [] }
@@ -46,7 +48,29 @@ impl<T> List<T> {
         self.items.as_slice()
     }
 
-    /// The item at a place, counted from 0, or `None` past the end. It takes no memory.
+    /// The items as a slice that may be written: the list ends with what it shows last. It takes no memory.
+    pub fn as_mut_slice(&mut self) -> &mut [T]
+        ensures* writes_back { sem 𝓛 (LendsItems T.row self.entry result) }
+        ensures items { result.now ≡ self.old }
+    {
+        self.items.as_mut_slice()
+    }
+
+    /// The list of the items of a vector. It takes no memory.
+    pub fn of(items: Vec<T>) -> List<T>
+        ensures { result ≡ items.items }
+    {
+        List { items }
+    }
+
+    /// The items as a vector. It takes no memory.
+    pub fn into_vec(self) -> Vec<T>
+        ensures { result.items ≡ self }
+    {
+        self.items
+    }
+
+    /// The item at an index, or `None` past the end. It takes no memory.
     pub fn get(&self, index: usize) -> Option<&T>
         ensures { option_copied result ≡ slice_get self.now index }
     {
@@ -60,10 +84,10 @@ impl<T: Drop> List<T> {
         ensures ok { OnOk result (self.new ≡ self.old ++ item ∷ []) }
         ensures err { OnErr result (self.new ≡ self.old) }
     {
-        match self.items.push(item) {
-            Ok(()) => Ok(()),
-            Err(_) => Err(NoMemory),
-        }
+        let Ok(()) = self.items.push(item) else {
+            return Err(NoMemory);
+        };
+        Ok(())
     }
 }
 
@@ -102,11 +126,5 @@ impl<T: Ord> Ord for List<T> {
 
     fn cmp(&self, other: &List<T>) -> Ordering {
         self.items.cmp(&other.items)
-    }
-}
-
-impl<T: fmt::Debug> fmt::Debug for List<T> {
-    fn fmt<W: fmt::Write>(&self, f: &mut fmt::Formatter<W>) -> fmt::Result {
-        f.debug_list().entries(self.items.iter()).finish()
     }
 }

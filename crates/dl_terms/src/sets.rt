@@ -3,13 +3,15 @@ ghost use Rattle.std.specs.Prelude.{◌≡◌};
 ghost use Rattle.std.specs.declared.cmp.Ordering.TheVariants.{Equal};
 ghost use Rattle.dl_terms.specs.Sets.{IsSetOf};
 
-/// The set of the items of a list. Items that compare equal have to be the same.
-pub(crate) fn set_of<T: Ord + Drop>(items: Vec<T>) -> Vec<T>
+use crate::List;
+
+/// The set of the items of a list: sorted, each once. Items that compare equal have to be the same. It takes no memory.
+pub fn set_of<T: Ord + Drop>(items: List<T>) -> List<T>
     requires { (x y : T) → T.cmp x y ≡ Equal → x ≡ y }
-    ensures { IsSetOf T.cmp result.items items.items }
+    ensures { IsSetOf T.cmp result items }
 {
-    let mut set = items;
+    let mut set = items.into_vec();
     set.sort_unstable();
     set.dedup();
-    set
+    List::of(set)
 }
