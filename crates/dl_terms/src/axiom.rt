@@ -1,7 +1,7 @@
 use crate::{Basic, List, Role};
 
 /// A part of the right side of an inclusion.
-#[derive(Clone, Copy, Debug, PartialEq, Eq, PartialOrd, Ord, Hash)]
+#[derive(Clone, Copy, PartialEq, Eq, PartialOrd, Ord)]
 pub enum Part {
     /// `owl:Thing`.
     Thing,
@@ -15,8 +15,8 @@ pub enum Part {
 }
 
 /// An axiom of OWL 2 QL on classes and object properties. Its order is by kind, as listed, and then by operands.
-/// No role of an axiom is a filler: those stand in the normal form alone.
-#[derive(Drop, Debug, PartialEq, Eq, PartialOrd, Ord)]
+/// No role of an axiom is a filler: those stand in the normal form alone (`HasNoFiller` of the definitions).
+#[derive(Drop, PartialEq, Eq, PartialOrd, Ord)]
 pub enum Axiom {
     SubClass { sub: Basic, sup: List<Part> },
     EquivalentClasses(List<Basic>),
@@ -33,14 +33,14 @@ pub enum Axiom {
 }
 
 /// A fact: an individual is in a class, or a role joins two individuals.
-#[derive(Clone, Copy, Debug, PartialEq, Eq, PartialOrd, Ord, Hash)]
+#[derive(Clone, Copy, PartialEq, Eq, PartialOrd, Ord)]
 pub enum Fact {
     Is { class: u32, who: u32 },
     Link { role: u32, from: u32, to: u32 },
 }
 
 /// The predicates that are declared or used. Both lists ascend strictly.
-#[derive(Drop, Debug, PartialEq, Eq)]
+#[derive(Drop, PartialEq, Eq)]
 pub struct Signature {
     pub classes: List<u32>,
     pub roles: List<u32>,

@@ -2,7 +2,7 @@ use crate::List;
 
 /// A role name: one of the input, or the filler of a role and a class: a role below that role, which leads to members of that class
 /// alone. Fillers are this project's own.
-#[derive(Clone, Copy, Debug, PartialEq, Eq, PartialOrd, Ord, Hash)]
+#[derive(Clone, Copy, PartialEq, Eq, PartialOrd, Ord)]
 pub enum Base {
     /// An object property, by its number.
     Named(u32),
@@ -15,21 +15,21 @@ pub enum Base {
 }
 
 /// A role of DL-Lite_R: a role name, or the inverse of one.
-#[derive(Clone, Copy, Debug, PartialEq, Eq, PartialOrd, Ord, Hash)]
+#[derive(Clone, Copy, PartialEq, Eq, PartialOrd, Ord)]
 pub struct Role {
     pub base: Base,
     pub inverse: bool,
 }
 
 /// A basic concept of DL-Lite_R: a class, or what has a neighbour by a role.
-#[derive(Clone, Copy, Debug, PartialEq, Eq, PartialOrd, Ord, Hash)]
+#[derive(Clone, Copy, PartialEq, Eq, PartialOrd, Ord)]
 pub enum Basic {
     Class(u32),
     SomeOf(Role),
 }
 
 /// What no model has: an element in two basic concepts, a pair in two roles, or a loop of a role.
-#[derive(Clone, Copy, Debug, PartialEq, Eq, PartialOrd, Ord, Hash)]
+#[derive(Clone, Copy, PartialEq, Eq)]
 pub enum Negative {
     Basics(Basic, Basic),
     Roles(Role, Role),
@@ -37,8 +37,8 @@ pub enum Negative {
 }
 
 /// The normal form of a list of axioms: inclusions of roles, inclusions of basic concepts, and negatives. Each negative is beside the
-/// place of its axiom in the list, from 0.
-#[derive(Drop, Debug, PartialEq, Eq)]
+/// index of its axiom in the list, from 0.
+#[derive(Drop, PartialEq, Eq)]
 pub struct Normal {
     pub roles: List<(Role, Role)>,
     pub concepts: List<(Basic, Basic)>,
