@@ -8,3 +8,5 @@ pub mod AnswerLemmas
 pub mod MatchLemmas
 pub mod SetLemmas
 pub mod ListLemmas
+pub mod FillerLemmas
+pub mod OccurringLemmas

@@ -1,6 +1,6 @@
 pub mod Roles
-pub mod Fillers
 pub mod NormalForm
+pub mod Fillers
 pub mod Chain
 pub mod Below
 pub mod Structure
@@ -12,4 +12,5 @@ pub mod Table
 pub mod Order
 pub mod Sets
 pub mod Renamed
+pub mod Occurring
 pub mod Lending

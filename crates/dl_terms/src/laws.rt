@@ -1,6 +1,12 @@
-//! Laws of the definitions: of what is below what, of the canonical structure, and of what is determined.
-ghost use Rattle.std.specs.Prelude.{◌≡◌, ℕ, ◌↔◌, List};
+//! Laws of the definitions: of fillers and names, of what is below what, of the canonical structure, and of what is determined.
+ghost use Rattle.std.specs.Prelude.{◌≡◌, ℕ, ◌↔◌, ◌⊎◌, List, map};
+ghost use Rattle.std.specs.List.{Contains};
 ghost use Rattle.std.specs.declared.option.Option.{Option};
+ghost use Rattle.dl_terms.specs.Roles.{filler_of};
+ghost use Rattle.dl_terms.specs.NormalForm.{Row, axiom_rows};
+ghost use Rattle.dl_terms.specs.Fillers.{RoleHasNoFiller, HasNoFiller, RowHasNoFiller, IsFilled};
+ghost use Rattle.dl_terms.specs.Renamed.{renamed_axiom, renamed_fact, renamed_query};
+ghost use Rattle.dl_terms.specs.Occurring.{axiom_names, fact_names, query_names};
 ghost use Rattle.dl_terms.specs.Below.{RoleBelow, ConceptBelow};
 ghost use Rattle.dl_terms.specs.Structure.{Element, IsElement, HoldsAt, Joins};
 ghost use Rattle.dl_terms.specs.Answers.{AreCertain};
@@ -43,4 +49,25 @@ pub fn answers_are_determined()
     ensures reply { (axioms : List Axiom) (facts : List Fact) (nothing : Option ℕ)
         (q : Query) (limit : ℕ) (a b : Reply) → IsReply axioms facts nothing q limit a
         → IsReply axioms facts nothing q limit b → a ≡ b }
+{}
+
+/// Fillers come into the normal form for "some r in C" alone: each row of an axiom without fillers has none, or is one of the rows that
+/// say that. There is one filler for each role that is none and each class, and other names change nothing of all that.
+pub fn fillers_stand_for_some_in()
+    ensures rows { (a : Axiom) (row : Row) → HasNoFiller a
+        → Contains (axiom_rows a) row → RowHasNoFiller row ⊎ IsFilled row }
+    ensures one_each { (r s : Role) (c d : ℕ) → RoleHasNoFiller r → RoleHasNoFiller s
+        → filler_of r c ≡ filler_of s d → (r ≡ s) × (c ≡ d) }
+    ensures renamed { (to : ℕ → ℕ) (a : Axiom)
+        → HasNoFiller a → HasNoFiller (renamed_axiom to a) }
+{}
+
+/// The names of a renamed axiom, fact or query are its names, renamed.
+pub fn names_are_renamed()
+    ensures of_axiom { (to : ℕ → ℕ) (a : Axiom)
+        → axiom_names (renamed_axiom to a) ≡ map to (axiom_names a) }
+    ensures of_fact { (to : ℕ → ℕ) (f : Fact)
+        → fact_names (renamed_fact to f) ≡ map to (fact_names f) }
+    ensures of_query { (to : ℕ → ℕ) (q : Query)
+        → query_names (renamed_query to q) ≡ map to (query_names q) }
 {}
