@@ -9,9 +9,9 @@ pub length-cut : (w n : ℕ) (xs : List ℕ) → length (cut w n xs) ≡ n
 length-cut w zero xs = refl
 length-cut w (suc n) xs = ap suc (length-cut w n (drop w xs))
 
--- a place in a piece is below the end of all pieces
-pub place_below : (i n j w : ℕ) → i < n → j < w → i * w + j < n * w
-place_below i n j w h k = grind arith
+-- an index in a piece is below the end of all pieces
+pub index_below : (i n j w : ℕ) → i < n → j < w → i * w + j < n * w
+index_below i n j w h k = grind arith
 
 pub cut-at : (w n : ℕ) (xs : List ℕ) (i j : ℕ) → length xs ≡ n * w → i < n → j < w
     → get_or (slice_index_or (cut w n xs) i []) j 0 ≡ get_or xs (i * w + j) 0
@@ -37,16 +37,16 @@ cut-append w (suc n) xs ys e f =
 abbrev pub table : ℕ → ℕ → List ℕ → Table
 table w n xs = record { width = w; tuples = cut w n xs }
 
--- a place in a table is one in the names of its tuples, which has that name
-pub table_place : (t : Table) (w n : ℕ) (xs : List ℕ) (i j : ℕ) → table w n xs ≡ t → length xs ≡ n * w → i < length t.tuples
+-- the name at an index of a table is one of the names of its tuples
+pub table_index : (t : Table) (w n : ℕ) (xs : List ℕ) (i j : ℕ) → table w n xs ≡ t → length xs ≡ n * w → i < length t.tuples
     → j < t.width → (i * w + j < length xs) × (get_or (slice_index_or t.tuples i []) j 0 ≡ get_or xs (i * w + j) 0)
-table_place t w n xs i j is e h k =
+table_index t w n xs i j is e h k =
     let count : length t.tuples ≡ n = ap (λ z. length z.tuples) (sym is) ∙ length-cut w n xs in
     let below : i < n = omega arith in
     let width : w ≡ t.width = ap (λ z. z.width) is in
-    let place : j < w = omega arith in (
-      omega (arith, place_below i n j w below place),
-      ap (λ z. get_or (slice_index_or z.tuples i []) j 0) (sym is) ∙ cut-at w n xs i j e below place,
+    let within : j < w = omega arith in (
+      omega (arith, index_below i n j w below within),
+      ap (λ z. get_or (slice_index_or z.tuples i []) j 0) (sym is) ∙ cut-at w n xs i j e below within,
     )
 
 -- one more tuple in the names is one more in the table

@@ -26,7 +26,7 @@ abbrev pub ring : {A : Type 0} → List A → List (A × A)
 ring [] = []
 ring (x ∷ xs) = zip (x ∷ xs) (xs ++ x ∷ [])
 
--- each with every later one, by place
+-- each with every later one of the list, whether or not they are the same
 abbrev pub pairs : {A : Type 0} → List A → List (A × A)
 pairs [] = []
 pairs (x ∷ xs) = map (λ y. (x, y)) xs ++ pairs xs

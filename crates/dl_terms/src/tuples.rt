@@ -61,10 +61,10 @@ impl Tuples {
         self.count
     }
 
-    /// The name at the place `j` of the tuple at the place `i`, both counted from 0. It takes no memory.
+    /// The name at the index `j` of the tuple at the index `i`. It takes no memory.
     pub fn name(&self, i: u64, j: u32) -> u32
-        requires tuple { i < length self.now.tuples }
-        requires place { j < self.now.width }
+        requires row { i < length self.now.tuples }
+        requires column { j < self.now.width }
         ensures { result ≡ slice_index (slice_index_or self.now.tuples i []) j }
     {
         let names = self.names.as_slice();
