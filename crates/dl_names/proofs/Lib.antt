@@ -4,3 +4,4 @@ pub mod SameFrozenLemmas
 pub mod SetLemmas
 pub mod SearchLemmas
 pub mod ArrangeLemmas
+pub mod RankLemmas

@@ -1,3 +1,4 @@
 pub mod NameList
 pub mod Frozen
 pub mod Arrange
+pub mod Iris

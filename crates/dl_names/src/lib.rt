@@ -4,10 +4,12 @@
 mod arrange;
 mod fault;
 mod frozen;
+mod iris;
 mod set;
 
 pub use fault::NameFault;
 pub use frozen::{Names, Ranks};
+pub use iris::{is_iri_byte, is_reserved, name_of};
 pub use set::{MAX_NAMES, NameSet};
 
 #[cfg(test)]

@@ -3,7 +3,6 @@ pub mod MarkLemmas
 pub mod ChainLemmas
 pub mod BelowLemmas
 pub mod MemberLemmas
-pub mod RankLemmas
 pub mod WordLemmas
 pub mod AnswerLemmas
 pub mod ScanLemmas

@@ -1,7 +1,7 @@
 -- A line of facts has one individual, one class and one rest.
 use Rattle.std.proofs.Common.{◌≡◌, ℕ, List, [], ◌∷◌, ◌++◌, codes, Option, Some, None, MatchOption, IfSome, IfNone, Bor, refl, sym, ap, ◌∙◌, append_assoc}
 use Rattle.std.proofs.lemmas.List.{append_cancel_left}
-use Rattle.dl_run.specs.Iris.{IsName}
+use Rattle.dl_names.specs.Iris.{IsName}
 use Rattle.dl_run.specs.Data.{class_line}
 use Rattle.dl_run.specs.Lines.{LineThen}
 use Rattle.dl_run.proofs.ScanLemmas.{iri_one}

@@ -11,7 +11,7 @@ use Rattle.dl_names.specs.declared.fault.NameFault.TheVariants.{Full}
 use Rattle.dl_names.proofs.NameListLemmas.{names_after-new}
 use Rattle.dl_run.specs.declared.fault.Fault.TheVariants.{NotBuilt}
 use Rattle.dl_run.specs.Faults.{fault_of}
-use Rattle.dl_run.specs.Iris.{is_iri_byte, IsName}
+use Rattle.dl_names.specs.Iris.{is_iri_byte, IsName}
 use Rattle.dl_run.specs.Tokens.{trimmed, WordThen, NameThen}
 
 -- where an IRI ends

@@ -3,7 +3,7 @@ use Rattle.std.specs.Prelude.{◌≡◌, ℕ, List, [], ◌∷◌, ◌++◌, cod
 use Rattle.dl_names.specs.NameList.{Text, names_after, place_of}
 use Rattle.dl_terms.specs.declared.axiom.Fact.{Fact}
 use Rattle.dl_terms.specs.declared.axiom.Fact.TheVariants.{Is}
-use Rattle.dl_run.specs.Iris.{IsName}
+use Rattle.dl_names.specs.Iris.{IsName}
 
 -- the line that says that an individual is in a class
 abbrev pub class_line : Text → Text → List ℕ

@@ -9,7 +9,7 @@ use Rattle.dl_terms.specs.Renamed.{renamed_axiom, renamed_fact, renamed_query}
 use Rattle.dl_terms.specs.declared.axiom.Axiom.{Axiom}
 use Rattle.dl_terms.specs.declared.axiom.Fact.{Fact}
 use Rattle.dl_terms.specs.declared.query.Query.{Query}
-use Rattle.dl_run.specs.Iris.{owl_nothing}
+use Rattle.dl_names.specs.Iris.{owl_nothing}
 use Rattle.dl_run.specs.Ontology.{IsOntology}
 use Rattle.dl_run.specs.Data.{IsData}
 use Rattle.dl_run.specs.Queries.{IsQuery}

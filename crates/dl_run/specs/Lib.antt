@@ -1,7 +1,6 @@
 pub mod Faults
 pub mod Words
 pub mod Texts
-pub mod Iris
 pub mod Tokens
 pub mod Inclusions
 pub mod Members

@@ -1,7 +1,7 @@
 -- One line of facts as it is read.
 use Rattle.std.specs.Prelude.{◌≡◌, ℕ, List, [], ◌∷◌, ◌++◌}
 use Rattle.dl_names.specs.NameList.{Text, names_after, place_of}
-use Rattle.dl_run.specs.Iris.{IsName}
+use Rattle.dl_names.specs.Iris.{IsName}
 use Rattle.dl_run.specs.Data.{class_line}
 
 -- a line that says that an individual is in a class stands at the front, and then the rest

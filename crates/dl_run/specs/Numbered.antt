@@ -5,7 +5,7 @@ use Rattle.std.specs.Ordering.{nat_cmp, ordering_then}
 use Rattle.dl_names.specs.NameList.{Text, has_name}
 use Rattle.dl_names.specs.Frozen.{IsFrozen}
 use Rattle.dl_terms.specs.Sets.{IsSetOf}
-use Rattle.dl_run.specs.Iris.{owl_nothing}
+use Rattle.dl_names.specs.Iris.{owl_nothing}
 use Rattle.dl_run.specs.Ranked.{ranked_pair}
 
 -- pairs by their first part and then by their second

@@ -1,7 +1,7 @@
 -- Tokens with white space between them, in ontologies and queries, and names in the order in which they are first met.
 use Rattle.std.specs.Prelude.{◌≡◌, ℕ, Bool, ◌||◌, ◌==◌, List, [], ◌∷◌, ◌++◌, if◌then◌else◌}
 use Rattle.dl_names.specs.NameList.{Text, names_after, place_of}
-use Rattle.dl_run.specs.Iris.{IsName}
+use Rattle.dl_names.specs.Iris.{IsName}
 
 -- white space: space, tab, carriage return and line feed
 abbrev pub is_blank : ℕ → Bool

@@ -6,7 +6,7 @@ ghost use Rattle.dl_names.specs.NameList.{has_name};
 ghost use Rattle.dl_terms.specs.declared.query.Query.{Query};
 ghost use Rattle.dl_run.specs.Asked.{load_of};
 ghost use Rattle.dl_run.specs.Input.{Load, AreInput};
-ghost use Rattle.dl_run.specs.Iris.{owl_nothing};
+ghost use Rattle.dl_names.specs.Iris.{owl_nothing};
 ghost use Rattle.dl_run.specs.Members.{members_of};
 ghost use Rattle.dl_run.specs.Numbered.{IsNumbered};
 ghost use Rattle.dl_run.specs.Defined.{IsNoInput};

@@ -2,11 +2,11 @@
 ghost use Rattle.std.specs.Prelude.{◌≡◌, ◌≤◌, ◌<◌, ◌∷◌, ◌++◌, ℕ, List, [], length, IfOk, IfErr, OnOk, OnErr, IfSome, IfNone, IsTrue, not, position};
 ghost use Rattle.std.specs.List.{list_all};
 ghost use Rattle.dl_names.specs.NameList.{Text, max_names};
-ghost use Rattle.dl_run.specs.Iris.{is_iri_byte, is_reserved, IsName};
+ghost use Rattle.dl_names.specs.Iris.{is_iri_byte, IsName};
 ghost use Rattle.dl_run.specs.Tokens.{is_blank, trimmed, WordThen, NameThen};
 
 use crate::fault::Fault;
-use dl_names::NameSet;
+use dl_names::{NameSet, is_iri_byte, name_of};
 
 /// What stands behind the white space at the front.
 pub(crate) fn trimmed(bytes: &[u8]) -> &[u8]
@@ -100,45 +100,9 @@ fn iri_end(bytes: &[u8]) -> Option<usize>
     bytes.iter().position(|byte| !is_iri_byte(*byte))
 }
 
-/// The characters of an IRI as the text of a name.
-fn name_of(characters: &[u8]) -> Option<&str>
-    requires { IsTrue (list_all is_iri_byte characters.now) }
-    ensures found { IfSome result (λ name. (name.now ≡ characters.now) × IsName characters.now) }
-    ensures none { IfNone result (IsName characters.now → ⊥) }
-{
-    if is_reserved(characters) {
-        return None;
-    }
-    match std::str::from_utf8(characters) {
-        Ok(name) => Some(name),
-        Err(_) => None,
-    }
-}
-
-/// Whether an IRI is in a reserved namespace.
-fn is_reserved(iri: &[u8]) -> bool
-    ensures { result ≡ is_reserved iri.now }
-{
-    iri.starts_with(b"http://www.w3.org/2002/07/owl#")
-        || iri.starts_with(b"http://www.w3.org/1999/02/22-rdf-syntax-ns#")
-        || iri.starts_with(b"http://www.w3.org/2000/01/rdf-schema#")
-        || iri.starts_with(b"http://www.w3.org/2001/XMLSchema#")
-}
-
 /// Whether a byte is white space.
 fn is_blank(byte: u8) -> bool
     ensures { result ≡ is_blank byte }
 {
     byte == b' ' || byte == b'\t' || byte == b'\r' || byte == b'\n'
-}
-
-/// Whether a byte is a character of an IRI, or a part of one that isn't ASCII.
-fn is_iri_byte(byte: u8) -> bool
-    ensures { result ≡ is_iri_byte byte }
-{
-    byte > 32
-        && !matches!(
-            byte,
-            b'<' | b'>' | b'"' | b'{' | b'}' | b'|' | b'^' | b'`' | b'\\'
-        )
 }

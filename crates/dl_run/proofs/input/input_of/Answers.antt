@@ -7,7 +7,7 @@ use Rattle.dl_run.specs.Asked.{load_of}
 use Rattle.dl_run.specs.Members.{members_of}
 use Rattle.dl_run.specs.Numbered.{IsNumbered}
 use Rattle.dl_names.specs.NameList.{has_name}
-use Rattle.dl_run.specs.Iris.{owl_nothing}
+use Rattle.dl_names.specs.Iris.{owl_nothing}
 use Rattle.dl_run.proofs.InputLemmas.{input_from, AreInput-unique, met_first_fits, met_then_fits, data_after, query_after, IsData-grows, last_met, placed_later, fits_from_keys}
 use Rattle.dl_run.proofs.TokenLemmas.{NameThen-grows}
 use Rattle.dl_run.proofs.input.input_of.Goals as goal

@@ -1,5 +1,5 @@
 use Rattle.std.proofs.Common.{sym, ◌∙◌}
-use Rattle.dl_run.specs.Iris.{owl_nothing}
+use Rattle.dl_names.specs.Iris.{owl_nothing}
 use Rattle.dl_run.proofs.InputLemmas.{ranked_named, rank_named}
 use Rattle.dl_run.proofs.input.numbered.Goals as goal
 

@@ -1,6 +1,6 @@
 use Rattle.std.proofs.Common.{◌≡◌, ◌<◌, length, get_or, ap, ◌∙◌, add-one, arith}
 use Rattle.dl_run.specs.Ranked.{ranked_pair}
-use Rattle.dl_run.proofs.RankLemmas.{get_or-changed, set-changed}
+use Rattle.dl_names.proofs.RankLemmas.{get_or-changed, set-changed}
 use Rattle.dl_run.proofs.ranked.rank_pairs.Goals as goal
 
 pub loop-pair-preserved : goal.loop-pair-preserved

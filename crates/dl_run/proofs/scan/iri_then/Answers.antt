@@ -1,6 +1,6 @@
 use Rattle.std.proofs.Common.{◌≡◌, ◌∷◌, sym, ◌∙◌, ap, subst, length, take, get_or}
 use Rattle.std.proofs.lemmas.List.{take_at, get_or_at}
-use Rattle.dl_run.specs.Iris.{IsName}
+use Rattle.dl_names.specs.Iris.{IsName}
 use Rattle.dl_run.proofs.ScanLemmas.{position_iri, characters_before}
 use Rattle.dl_run.proofs.scan.iri_then.Goals as goal
 
