@@ -15,7 +15,7 @@ use Rattle.std.proofs.lemmas.Map.Keys.{IsDistinct-from_apart, IsDistinct-IsPermu
 use Rattle.std.proofs.lemmas.Option.{get_or_from_slice_get, slice_get_within, slice_get-get_or, slice_get-map, slice_get_cases}
 use Rattle.dl_names.specs.NameList.{Text, has_name, place_of, HasNoRepeats}
 use Rattle.dl_names.specs.Frozen.{text_cmp, IsBefore, IsAscending, IsFrozen}
-use Rattle.dl_names.specs.Arrange.{IsNumbered}
+use Rattle.dl_names.specs.Arrange.{IsPlaced}
 use Rattle.dl_names.proofs.NameListLemmas.{same_test, same_place, place_of-lt, slice_get-place_of, has_name-slice_get}
 use Rattle.dl_names.proofs.FrozenLemmas.{IsBefore_cases}
 
@@ -58,28 +58,28 @@ pub record IsPairsOf (set : List Text) (pairs : List Pair) : Type 0 where
 abbrev pub texts_in : List Pair → List Text
 texts_in pairs = map string_bytes (map (λ pair. pair.0) pairs)
 
-module _ (strings : List (String Global)) (pairs : List Pair) (numbered : IsNumbered strings pairs) where
+module _ (strings : List (String Global)) (pairs : List Pair) (placed : IsPlaced strings pairs) where
   place_at : (k d : ℕ) → k < length pairs → get_or (map (λ pair. pair.1) pairs) k d ≡ k
   place_at k d within =
       elim (slice_get_cases pairs k).1 [
-        | inl at ↦ get_or-map (λ pair. pair.1) pairs k at.0 d within ∙ ap (λ pair. pair.1) (numbered.at k at.0 (omega (arith, numbered.as_many, within)))
+        | inl at ↦ get_or-map (λ pair. pair.1) pairs k at.0 d within ∙ ap (λ pair. pair.1) (placed.at k at.0 (omega (arith, placed.as_many, within)))
         | inr past ↦ absurd (omega (arith, past.0, within))
       ]
 
-  -- numbered strings are pairs of their texts
-  pub IsPairsOf-numbered : IsPairsOf (map string_bytes strings) pairs
-  IsPairsOf-numbered = record {
-    as_many = numbered.as_many ∙ sym (length-map strings string_bytes);
+  -- placed strings are pairs of their texts
+  pub IsPairsOf-placed : IsPairsOf (map string_bytes strings) pairs
+  IsPairsOf-placed = record {
+    as_many = placed.as_many ∙ sym (length-map strings string_bytes);
     told = λ k d within.
-        let k_in : k < length strings = omega (arith, numbered.as_many, within) in
-        let at = numbered.at k d k_in in
+        let k_in : k < length strings = omega (arith, placed.as_many, within) in
+        let at = placed.at k d k_in in
         subst (λ pair. slice_get (map string_bytes strings) pair.1 ≡ Some (string_bytes pair.0)) (sym at)
         (slice_get-map string_bytes strings k ∙ ap (option_map string_bytes) (slice_get-get_or strings k d.0 k_in));
     apart = IsDistinct-from_apart nat_eq (map (λ pair. pair.1) pairs) (λ i j d lt within.
         let j_in : j < length pairs = omega (arith, length-map pairs (λ pair. pair.1), within) in
         (λ t. nat_eq (place_at i d (omega arith) t) (place_at j d j_in t)) ∙ false_from_ne_true (nat_eq i j) (λ e. omega (arith, eqb-true i j e, lt)));
     each = λ place within.
-        let here : place < length pairs = omega (arith, numbered.as_many, length-map strings string_bytes, within) in
+        let here : place < length pairs = omega (arith, placed.as_many, length-map strings string_bytes, within) in
         (place, omega (arith, length-map pairs (λ pair. pair.1), here), place_at place place here);
   }
 

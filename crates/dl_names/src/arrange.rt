@@ -1,17 +1,17 @@
 // How a set of names is frozen: pairs of a text and its place are sorted, and the ranks are read off.
 ghost use Rattle.std.specs.Prelude.{◌≡◌, ◌≢◌, ℕ, ◌<◌, ◌≤◌, map, slice_index, slice_index_or, vec_len, All, AllPairs, IfOk, String};
 ghost use Rattle.indexmap.specs.IndexSet.{index_set_len};
-ghost use Rattle.dl_names.specs.Arrange.{IsNumbered};
+ghost use Rattle.dl_names.specs.Arrange.{IsPlaced};
 ghost use Rattle.dl_names.specs.NameList.{max_names};
 
 use dl_terms::NoMemory;
 use indexmap::IndexSet;
 use std::alloc::Global;
 
-// Each text with its place.
-pub(crate) fn numbered(texts: IndexSet<String>) -> Result<Vec<(String, u32)>, NoMemory>
+/// Each text with its place.
+pub(crate) fn placed(texts: IndexSet<String>) -> Result<Vec<(String, u32)>, NoMemory>
     requires { index_set_len texts ≤ max_names }
-    ensures { IfOk result (λ pairs. IsNumbered texts.keys pairs.items) }
+    ensures { IfOk result (λ pairs. IsPlaced texts.keys pairs.items) }
 {
     let alloc = *texts.allocator();
     let count = texts.len() as u32;
@@ -19,7 +19,7 @@ pub(crate) fn numbered(texts: IndexSet<String>) -> Result<Vec<(String, u32)>, No
     Ok(pairs)
 }
 
-// For each place the index of its pair.
+/// For each place the rank of its text: the index of its pair.
 pub(crate) fn ranks_of(pairs: &Vec<(String, u32)>) -> Result<Vec<u32>, NoMemory>
     requires fits { vec_len pairs.now ≤ max_names }
     requires within { All (λ pair. pair.1 < vec_len pairs.now) pairs.now.items }
@@ -36,7 +36,7 @@ pub(crate) fn ranks_of(pairs: &Vec<(String, u32)>) -> Result<Vec<u32>, NoMemory>
     Ok(ranks)
 }
 
-// The texts, without their places.
+/// The texts, without their places.
 pub(crate) fn texts_of(pairs: Vec<(String, u32)>) -> Result<Vec<String>, NoMemory>
     ensures { IfOk result (λ texts. texts.items ≡ map (λ pair. pair.0) pairs.items) }
 {

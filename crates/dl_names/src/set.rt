@@ -2,7 +2,7 @@ ghost use Rattle.std.specs.Prelude.{◌≡◌, ◌<◌, ◌≤◌, ◌↔◌, []
 ghost use Rattle.dl_names.specs.NameList.{max_names, names_after, has_name, place_of, HasNoRepeats};
 ghost use Rattle.dl_names.specs.Frozen.{IsFrozen};
 
-use crate::arrange::{numbered, ranks_of, texts_of};
+use crate::arrange::{placed, ranks_of, texts_of};
 use crate::{NameFault, Names, Ranks};
 use dl_terms::NoMemory;
 use indexmap::IndexSet;
@@ -73,7 +73,7 @@ impl NameSet {
     pub fn freeze(self) -> Result<(Names, Ranks), NoMemory>
         ensures { IfOk result (λ frozen. IsFrozen self frozen.0 frozen.1) }
     {
-        let mut pairs = numbered(self.texts)?;
+        let mut pairs = placed(self.texts)?;
         pairs.sort_unstable();
         let ranks = ranks_of(&pairs)?;
         let texts = texts_of(pairs)?;

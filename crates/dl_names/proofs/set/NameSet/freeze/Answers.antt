@@ -1,26 +1,26 @@
 use Rattle.std.proofs.Common.{◌≡◌, length, map, string_bytes, sym, ap, subst, ◌∙◌, arith}
 use Rattle.dl_names.specs.Frozen.{IsAscending, IsFrozen}
-use Rattle.dl_names.proofs.ArrangeLemmas.{IsPairsOf-numbered, IsPairsOf-IsPermutation, within_set, distinct_places, ascending, IsFrozen-sorted, texts_in}
+use Rattle.dl_names.proofs.ArrangeLemmas.{IsPairsOf-placed, IsPairsOf-IsPermutation, within_set, distinct_places, ascending, IsFrozen-sorted, texts_in}
 use Rattle.dl_names.proofs.set.NameSet.freeze.Goals as goal
 
 pub ranks_of-requires-clause-within : goal.ranks_of-requires-clause-within
 ranks_of-requires-clause-within c =
-    let of = IsPairsOf-IsPermutation _ _ _ c.sort_unstable.ensures.permutation (IsPairsOf-numbered _ _ c.in_ok-pairs.ensures) in
+    let of = IsPairsOf-IsPermutation _ _ _ c.sort_unstable.ensures.permutation (IsPairsOf-placed _ _ c.in_ok-pairs.ensures) in
     λ k d k_in. omega (arith, within_set _ c.self.invariant.0 _ of k d k_in, c.sort_unstable.new.self.ok.0)
 
 pub ranks_of-requires-clause-distinct : goal.ranks_of-requires-clause-distinct
 ranks_of-requires-clause-distinct c =
-    let of = IsPairsOf-IsPermutation _ _ _ c.sort_unstable.ensures.permutation (IsPairsOf-numbered _ _ c.in_ok-pairs.ensures) in
+    let of = IsPairsOf-IsPermutation _ _ _ c.sort_unstable.ensures.permutation (IsPairsOf-placed _ _ c.in_ok-pairs.ensures) in
     distinct_places _ c.self.invariant.0 _ of
 
 pub of-requires-clause-ascending : goal.of-requires-clause-ascending
 of-requires-clause-ascending c =
-    let of = IsPairsOf-IsPermutation _ _ _ c.sort_unstable.ensures.permutation (IsPairsOf-numbered _ _ c.in_ok-pairs.ensures) in
+    let of = IsPairsOf-IsPermutation _ _ _ c.sort_unstable.ensures.permutation (IsPairsOf-placed _ _ c.in_ok-pairs.ensures) in
     subst (λ l. IsAscending (map string_bytes l)) (sym c.in_ok-texts.ensures) (ascending _ c.self.invariant.0 _ of c.sort_unstable.ensures.sorted)
 
 pub returns : goal.returns
 returns c =
-    let of = IsPairsOf-IsPermutation _ _ _ c.sort_unstable.ensures.permutation (IsPairsOf-numbered _ _ c.in_ok-pairs.ensures) in
+    let of = IsPairsOf-IsPermutation _ _ _ c.sort_unstable.ensures.permutation (IsPairsOf-placed _ _ c.in_ok-pairs.ensures) in
     let pairs = c.sort_unstable.new.self in
     let ranks = c.in_ok-ranks.ranks in
     let set = map string_bytes c.self.inside.texts.keys in
