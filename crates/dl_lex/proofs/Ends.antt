@@ -5,6 +5,7 @@ use Rattle.dl_lex.specs.declared.token.TokenKind.{TokenKind}
 use Rattle.dl_lex.specs.Characters.{IsLongestRun, is_iri_character, is_lang_character, is_run_character}
 use Rattle.dl_lex.specs.Grammar.{IsIri, IsLang, IsRunText, IsRun}
 use Rattle.dl_lex.proofs.Runs.{none_at_ascii, one_run}
+use Rattle.dl_lex.proofs.Standing.{byte_stands}
 use Rattle.dl_lex.proofs.Tokens.{stands_byte}
 
 -- the > of an IRI stands at the end of the longest run of characters of an IRI
@@ -14,6 +15,12 @@ iri_ends bytes i j t =
     let ends = t.closes.ends in
     let inside = t.closes.in_range in
     record { run = t.inner; longest = none_at_ascii is_iri_character bytes t.inner_end (omega arith) (omega arith) (rw byte refl) }
+
+-- an IRI of characters up to a >
+pub iri_at : (bytes : List ℕ) (i e : ℕ) → IsLongestRun is_iri_character bytes (i + 1) e → i < length bytes → get_or bytes i 0 ≡ 60
+    → (e < length bytes) × (get_or bytes e 0 ≡ 62) → IsIri bytes i (e + 1)
+iri_at bytes i e l inside opens closes =
+    record { inner_end = e; opens = byte_stands bytes i 60 inside opens; inner = l.run; closes = byte_stands bytes e 62 closes.0 closes.1 }
 
 pub no_iri_at : (bytes : List ℕ) (i e : ℕ) → IsLongestRun is_iri_character bytes (i + 1) e → ((e < length bytes) × (get_or bytes e 0 ≡ 62) → ⊥) → (j : ℕ) → IsIri bytes i j → ⊥
 no_iri_at bytes i e l none j t =

@@ -1,4 +1,4 @@
-pub mod Places
+pub mod Standing
 pub mod Runs
 pub mod Tokens
 pub mod Quoted

@@ -1,4 +1,4 @@
--- The text of a string, from a place within it to its end.
+-- The text of a string, from an offset within it to its end.
 use Rattle.std.proofs.Common.{◌≡◌, ◌≢◌, ℕ, ◌+◌, ◌<◌, ◌⊎◌, inl, inr, true, List, [], ◌∷◌, ◌++◌, length, get_or, drop, refl, sym, ap, ◌∙◌, subst, append_assoc, length-append, arith}
 use Rattle.std.proofs.Math.Utf8.{encode, encodes}
 use Rattle.std.proofs.Math.Seq.{drop-append_seam}
@@ -11,11 +11,11 @@ use Rattle.std.proofs.lemmas.Str.{encode_ascii}
 use Rattle.dl_lex.specs.Characters.{StandsAt, IsCharacterAt, NoCharacterAt, IsLongestRun, is_plain_character}
 use Rattle.dl_lex.specs.Grammar.{IsQuoted, empty, plain, escaped, IsText}
 use Rattle.dl_lex.specs.Scanning.{IsRestOfText, IsEscapeAt, NoEscapeAt}
-use Rattle.dl_lex.proofs.Places.{StandsAt-append, byte_stands}
+use Rattle.dl_lex.proofs.Standing.{StandsAt-append, byte_stands}
 use Rattle.dl_lex.proofs.Runs.{first_stands, same_character}
 use Rattle.dl_lex.proofs.Tokens.{stands_byte}
 
--- a text that stands at a place, in two parts
+-- a text that stands at an offset, in two parts
 pub StandsAt-split : (bytes : List ℕ) (i j : ℕ) (xs ys : List ℕ) → StandsAt bytes i (xs ++ ys) j → StandsAt bytes i xs (i + length xs) × StandsAt bytes (i + length xs) ys j
 StandsAt-split bytes i j xs ys s =
     let size = length-append xs ys in
@@ -161,7 +161,7 @@ one_rest_of bytes i j k _ (escaped e ds is q) s r =
     let first : IsEscapeAt bytes i (i + 2) = record { escaped = e; is = is; stands = parts.0 } in
     one_rest_of bytes (i + 2) j k ds q parts.1 (rest_after_escape bytes i (i + 2) k first r)
 
--- a string ends at one place
+-- a string ends at one offset
 pub one_rest : (bytes : List ℕ) (i j k : ℕ) → IsRestOfText bytes i j → IsRestOfText bytes i k → j ≡ k
 one_rest bytes i j k r t = one_rest_of bytes i j k r.characters r.quoted r.stands t
 

@@ -1,4 +1,4 @@
--- The places of tokens are in order, and the text of a token is UTF-8.
+-- The offsets of tokens are in order, and the text of a token is UTF-8.
 use Rattle.std.proofs.Common.{◌≡◌, ℕ, ◌+◌, ◌-◌, ◌<◌, ◌≤◌, Bool, true, List, [], ◌∷◌, ◌++◌, length, drop, refl, sym, subst, arith}
 use Rattle.std.proofs.Math.Utf8.{encodes, scalar, scalars, low_scalar}
 use Rattle.std.proofs.Math.Seq.{take-append_seam}
@@ -12,7 +12,7 @@ use Rattle.dl_lex.specs.declared.token.TokenKind.{TokenKind}
 use Rattle.dl_lex.specs.declared.token.TokenKind.TheVariants.{Open, Close, Equals, Caret, Iri, Text, Lang, Node, Short, Number, Word, End}
 use Rattle.dl_lex.specs.Characters.{StandsAt, AreCharacters}
 use Rattle.dl_lex.specs.Grammar.{Skips, nothing, white_space, comment, IsIri, IsQuoted, empty, plain, escaped, IsRun, IsTokenAt}
-use Rattle.dl_lex.proofs.Places.{StandsAt-append}
+use Rattle.dl_lex.proofs.Standing.{StandsAt-append}
 use Rattle.dl_lex.proofs.Quoted.{escaped_low}
 
 -- white space and comments end no earlier than they begin, and within the bytes
@@ -36,7 +36,7 @@ scalars_of_quoted _ (escaped c cs is q) = and_from (scalar c) (scalars cs) (let 
 utf8_byte : (b : ℕ) → b < 128 → IsUtf8 (b ∷ [])
 utf8_byte b low = subst IsUtf8 (encode_ascii b low) (IsUtf8-encode b (low_scalar b (omega arith)))
 
--- the text that stands at a place, cut out
+-- the text that stands at an offset, cut out
 pub slice_of : (bytes : List ℕ) (i j : ℕ) (text : List ℕ) → StandsAt bytes i text j → slice_range bytes i j ≡ text
 slice_of bytes i j text s =
     let size : j - i ≡ length text = (let e = s.ends in omega arith) in
@@ -48,39 +48,39 @@ utf8_at bytes i j text s u = subst IsUtf8 (sym (slice_of bytes i j text s)) u
 characters_utf8 : (class : ℕ → Bool) (bytes : List ℕ) (i j : ℕ) → (a : AreCharacters class bytes i j) → IsUtf8 (encodes a.characters)
 characters_utf8 class bytes i j a = (a.characters, (scalars_of_all a.characters a.scalars, refl))
 
--- what a token says of its places and its text
-pub record IsInPlace (bytes : List ℕ) (i j : ℕ) : Type 0 where
+-- what a token says of its offsets and its text
+pub record IsInRange (bytes : List ℕ) (i j : ℕ) : Type 0 where
   pub forward : i ≤ j
   pub in_range : j ≤ length bytes
   pub utf8 : IsUtf8 (slice_range bytes i j)
 
-in_place : (bytes : List ℕ) (i j : ℕ) (text : List ℕ) → StandsAt bytes i text j → IsUtf8 text → IsInPlace bytes i j
-in_place bytes i j text s u = record { forward = (let e = s.ends in omega arith); in_range = s.in_range; utf8 = utf8_at bytes i j text s u }
+stands_in_range : (bytes : List ℕ) (i j : ℕ) (text : List ℕ) → StandsAt bytes i text j → IsUtf8 text → IsInRange bytes i j
+stands_in_range bytes i j text s u = record { forward = (let e = s.ends in omega arith); in_range = s.in_range; utf8 = utf8_at bytes i j text s u }
 
-run_in_place : (bytes : List ℕ) (kind : TokenKind) (i j : ℕ) → IsRun bytes kind i j → IsInPlace bytes i j
-run_in_place bytes kind i j r = in_place bytes i j (encodes r.run.run.characters) r.run.run.stand (characters_utf8 _ bytes i j r.run.run)
+run_in_range : (bytes : List ℕ) (kind : TokenKind) (i j : ℕ) → IsRun bytes kind i j → IsInRange bytes i j
+run_in_range bytes kind i j r = stands_in_range bytes i j (encodes r.run.run.characters) r.run.run.stand (characters_utf8 _ bytes i j r.run.run)
 
-pub token_in_place : (bytes : List ℕ) (kind : TokenKind) (i j : ℕ) → IsTokenAt bytes kind i j → IsInPlace bytes i j
-token_in_place bytes Open i j t = in_place bytes i j (40 ∷ []) t (utf8_byte 40 (omega arith))
-token_in_place bytes Close i j t = in_place bytes i j (41 ∷ []) t (utf8_byte 41 (omega arith))
-token_in_place bytes Equals i j t = in_place bytes i j (61 ∷ []) t (utf8_byte 61 (omega arith))
-token_in_place bytes Caret i j t = in_place bytes i j (94 ∷ 94 ∷ []) t (IsUtf8-append (94 ∷ []) (94 ∷ []) (utf8_byte 94 (omega arith)) (utf8_byte 94 (omega arith)))
-token_in_place bytes Iri i j t =
+pub token_in_range : (bytes : List ℕ) (kind : TokenKind) (i j : ℕ) → IsTokenAt bytes kind i j → IsInRange bytes i j
+token_in_range bytes Open i j t = stands_in_range bytes i j (40 ∷ []) t (utf8_byte 40 (omega arith))
+token_in_range bytes Close i j t = stands_in_range bytes i j (41 ∷ []) t (utf8_byte 41 (omega arith))
+token_in_range bytes Equals i j t = stands_in_range bytes i j (61 ∷ []) t (utf8_byte 61 (omega arith))
+token_in_range bytes Caret i j t = stands_in_range bytes i j (94 ∷ 94 ∷ []) t (IsUtf8-append (94 ∷ []) (94 ∷ []) (utf8_byte 94 (omega arith)) (utf8_byte 94 (omega arith)))
+token_in_range bytes Iri i j t =
     let text = StandsAt-append bytes i t.inner_end j ((60 ∷ []) ++ encodes t.inner.characters) (62 ∷ []) (StandsAt-append bytes i (i + 1) t.inner_end (60 ∷ []) (encodes t.inner.characters) t.opens t.inner.stand) t.closes in
-    in_place bytes i j (((60 ∷ []) ++ encodes t.inner.characters) ++ 62 ∷ []) text
+    stands_in_range bytes i j (((60 ∷ []) ++ encodes t.inner.characters) ++ 62 ∷ []) text
     (IsUtf8-append ((60 ∷ []) ++ encodes t.inner.characters) (62 ∷ []) (IsUtf8-append (60 ∷ []) (encodes t.inner.characters) (utf8_byte 60 (omega arith)) (characters_utf8 _ bytes (i + 1) t.inner_end t.inner)) (utf8_byte 62 (omega arith)))
-token_in_place bytes Text i j t =
+token_in_range bytes Text i j t =
     let text = StandsAt-append bytes i t.inner_end j ((34 ∷ []) ++ encodes t.characters) (34 ∷ []) (StandsAt-append bytes i (i + 1) t.inner_end (34 ∷ []) (encodes t.characters) t.opens t.inner) t.closes in
-    in_place bytes i j (((34 ∷ []) ++ encodes t.characters) ++ 34 ∷ []) text
+    stands_in_range bytes i j (((34 ∷ []) ++ encodes t.characters) ++ 34 ∷ []) text
     (IsUtf8-append ((34 ∷ []) ++ encodes t.characters) (34 ∷ []) (IsUtf8-append (34 ∷ []) (encodes t.characters) (utf8_byte 34 (omega arith)) (t.characters, (scalars_of_quoted t.characters t.quoted, refl))) (utf8_byte 34 (omega arith)))
-token_in_place bytes Lang i j t =
-    in_place bytes i j ((64 ∷ []) ++ encodes t.tag.run.characters) (StandsAt-append bytes i (i + 1) j (64 ∷ []) (encodes t.tag.run.characters) t.opens t.tag.run.stand)
+token_in_range bytes Lang i j t =
+    stands_in_range bytes i j ((64 ∷ []) ++ encodes t.tag.run.characters) (StandsAt-append bytes i (i + 1) j (64 ∷ []) (encodes t.tag.run.characters) t.opens t.tag.run.stand)
     (IsUtf8-append (64 ∷ []) (encodes t.tag.run.characters) (utf8_byte 64 (omega arith)) (characters_utf8 _ bytes (i + 1) j t.tag.run))
-token_in_place bytes Node i j t = run_in_place bytes Node i j t
-token_in_place bytes Short i j t = run_in_place bytes Short i j t
-token_in_place bytes Number i j t = run_in_place bytes Number i j t
-token_in_place bytes (Word keyword) i j t = run_in_place bytes (Word keyword) i j t
-token_in_place bytes End i j t =
+token_in_range bytes Node i j t = run_in_range bytes Node i j t
+token_in_range bytes Short i j t = run_in_range bytes Short i j t
+token_in_range bytes Number i j t = run_in_range bytes Number i j t
+token_in_range bytes (Word keyword) i j t = run_in_range bytes (Word keyword) i j t
+token_in_range bytes End i j t =
     let here = t.0 in
     let ends = t.1 in
     let size : j - i ≡ 0 = omega arith in

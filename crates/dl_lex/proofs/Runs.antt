@@ -11,7 +11,7 @@ use Rattle.std.proofs.lemmas.Str.{encode_same, length-encode, len_utf8_bounds, e
 use Rattle.dl_lex.specs.declared.characters.Class.{Class}
 use Rattle.dl_lex.specs.declared.characters.Class.TheVariants.{Iri, Run, Comment, Plain, Lang}
 use Rattle.dl_lex.specs.Characters.{StandsAt, IsCharacterAt, NoCharacterAt, AreCharacters, IsLongestRun, admits}
-use Rattle.dl_lex.proofs.Places.{StandsAt-append, StandsAt-nil, ascii_character, ascii_stands, wide_character}
+use Rattle.dl_lex.proofs.Standing.{StandsAt-append, StandsAt-nil, ascii_character, ascii_stands, wide_character}
 
 -- every class but that of language tags has the characters past ASCII
 pub wide_admitted : (class : Class) (c : ℕ) → class ≢ Lang → 128 ≤ c → admits class c ≡ true
@@ -64,11 +64,11 @@ first_stands bytes i j c rest s =
       record { ends = omega arith; in_range = s.in_range; is = later },
     )
 
--- two characters that stand at one place are one
+-- two characters that stand at one offset are one
 pub same_character : (bytes : List ℕ) (i j k c d : ℕ) → StandsAt bytes i (encode c) j → StandsAt bytes i (encode d) k → c ≡ d
 same_character bytes i j k c d s t = (encode_same c d (drop j bytes) (drop k bytes) (sym s.is ∙ t.is)).0
 
--- characters of a class end before a place at which none of the class begins
+-- characters of a class end before an offset at which none of the class begins
 runs_meet : (class : ℕ → Bool) (bytes : List ℕ) (i j k : ℕ) (cs ds : List ℕ) → All IsScalar cs → All (λ c. class c ≡ true) cs → StandsAt bytes i (encodes cs) j → NoCharacterAt class bytes j → All IsScalar ds → All (λ c. class c ≡ true) ds → StandsAt bytes i (encodes ds) k → NoCharacterAt class bytes k → cs ≡ ds
 runs_meet class bytes i j k [] [] sc pc s ends sd pd t stop = refl
 runs_meet class bytes i j k [] (d ∷ ds) sc pc s ends sd pd t stop =
@@ -87,7 +87,7 @@ runs_meet class bytes i j k (c ∷ cs) (d ∷ ds) sc pc s ends sd pd t stop =
     let rest = runs_meet class bytes (i + length (encode c)) j k cs ds (All-tail IsScalar c cs sc) (All-tail (λ c. class c ≡ true) c cs pc) one.1 ends (All-tail IsScalar d ds sd) (All-tail (λ c. class c ≡ true) d ds pd) later stop in
     cc (same, rest)
 
--- from a place there is one longest run of a class
+-- from an offset there is one longest run of a class
 pub one_run : (class : ℕ → Bool) (bytes : List ℕ) (i j k : ℕ) → IsLongestRun class bytes i j → IsLongestRun class bytes i k → j ≡ k
 one_run class bytes i j k a b =
     let same = runs_meet class bytes i j k a.run.characters b.run.characters a.run.scalars a.run.admitted a.run.stand a.longest b.run.scalars b.run.admitted b.run.stand b.longest in

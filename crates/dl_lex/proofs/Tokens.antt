@@ -1,4 +1,4 @@
--- Which tokens stand at a place, by the byte that stands there.
+-- Which tokens stand at an offset, by the byte that stands there.
 use Rattle.std.proofs.Common.{◌≡◌, ◌≢◌, ℕ, ◌+◌, ◌<◌, ◌≤◌, ◌⊎◌, inl, inr, true, false, cond, eqb, Option, Some, None, MatchOption, List, [], ◌∷◌, length, get_or, drop, refl, sym, ap, ◌∙◌, subst, arith}
 use Rattle.std.specs.List.{All, slice_range}
 use Rattle.std.specs.Option.{option_map}
@@ -15,7 +15,7 @@ use Rattle.dl_lex.specs.Grammar.{is_white_space, Skips, nothing, white_space, co
 use Rattle.dl_lex.specs.Keywords.{keyword_text, NoKeyword}
 use Rattle.dl_lex.specs.declared.keyword.Keyword.{Keyword}
 use Rattle.dl_lex.specs.Scanning.{NoTokenAt, SkipsOne, IsRunByte, NoRunText}
-use Rattle.dl_lex.proofs.Places.{ascii_character}
+use Rattle.dl_lex.proofs.Standing.{ascii_character}
 use Rattle.dl_lex.proofs.Runs.{first_stands}
 
 -- neither white space nor a comment begins
@@ -40,7 +40,7 @@ skip_comment bytes i j h hash run =
       goes_on = λ k s. comment i j k (slice_get-get_or bytes i 0 h ∙ ap (λ (b : ℕ). Some b) hash) run s;
     }
 
--- the first byte of a text that stands at a place
+-- the first byte of a text that stands at an offset
 pub stands_byte : (bytes : List ℕ) (i j b : ℕ) (rest : List ℕ) → StandsAt bytes i (b ∷ rest) j → get_or bytes i 0 ≡ b
 stands_byte bytes i j b rest s = (let at : get_or (drop i bytes) 0 0 ≡ get_or bytes i 0 = get_or-drop i bytes 0 0 ∙ ap (λ k. get_or bytes k 0) (omega arith) in sym at ∙ ap (λ t. get_or t 0 0) s.is)
 

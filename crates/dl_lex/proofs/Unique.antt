@@ -1,4 +1,4 @@
--- At each place one token begins at most, and of one kind.
+-- At each offset one token begins at most, and of one kind.
 use Rattle.std.proofs.Common.{◌≡◌, ℕ, ◌+◌, ◌<◌, ◌≤◌, ◌⊎◌, inl, inr, true, Option, Some, List, [], ◌∷◌, length, refl, sym, ap, ◌∙◌, subst, arith}
 use Rattle.std.specs.List.{slice_get, slice_range}
 use Rattle.std.proofs.lemmas.Bool.{cases_lt, false≢true}
@@ -34,7 +34,7 @@ one_skip bytes _ _ _ (comment i m j at run s) (comment _ n k there run' t) =
     let same : n ≡ m = one_run is_comment_character bytes (i + 1) n m run' run in
     one_skip bytes m j k s (subst (λ p. Skips bytes p k) same t)
 
--- two tokens from one place to places
+-- two tokens from one offset on
 pub record AreSame (a b : TokenKind) (j k : ℕ) : Type 0 where
   pub kinds : a ≡ b
   pub ends : j ≡ k
@@ -106,7 +106,7 @@ token_form : (bytes : List ℕ) (a b : TokenKind) (i j k : ℕ) → IsTokenAt by
 token_form bytes a b i j k s t (inl h) = form_of_token bytes a i j s h ∙ sym (form_of_token bytes b i k t h)
 token_form bytes a b i j k s t (inr h) = at_end bytes a i j s h ∙ sym (at_end bytes b i k t h)
 
--- at a place one token stands at most
+-- at an offset one token stands at most
 pub one_token_at : (bytes : List ℕ) (a b : TokenKind) (i j k : ℕ) → IsTokenAt bytes a i j → IsTokenAt bytes b i k → AreSame a b j k
 one_token_at bytes a b i j k s t = same_tokens bytes a b i j k s t (token_form bytes a b i j k s t (cases_lt i (length bytes)))
 
@@ -114,18 +114,18 @@ token_same : (a b : TokenKind) (i j k m : ℕ) → a ≡ b → i ≡ j → k ≡
 token_same a b i j k m p q r = cc
 
 -- one token is the next at most
-pub one_next_token : (bytes : List ℕ) (place : ℕ) (s t : Token) → IsNextToken bytes place s → IsNextToken bytes place t → s ≡ t
-one_next_token bytes place s t a b =
-    let start : t.start ≡ s.start = one_skip bytes place t.start s.start b.skipped a.skipped in
+pub one_next_token : (bytes : List ℕ) (offset : ℕ) (s t : Token) → IsNextToken bytes offset s → IsNextToken bytes offset t → s ≡ t
+one_next_token bytes offset s t a b =
+    let start : t.start ≡ s.start = one_skip bytes offset t.start s.start b.skipped a.skipped in
     let stands = subst (λ n. IsTokenAt bytes t.kind n t.end) start b.stands in
     let same = one_token_at bytes s.kind t.kind s.start s.end t.end a.stands stands in
     token_same s.kind t.kind s.start t.start s.end t.end same.kinds (sym start) same.ends
 
 -- no token is the next where a fault is
-pub no_token_at_fault : (bytes : List ℕ) (place at : ℕ) (t : Token) → IsFaultAt bytes place at → IsNextToken bytes place t → ⊥
-no_token_at_fault bytes place at t f b =
-    let start : t.start ≡ at = one_skip bytes place t.start at b.skipped f.skipped in
+pub no_token_at_fault : (bytes : List ℕ) (offset at : ℕ) (t : Token) → IsFaultAt bytes offset at → IsNextToken bytes offset t → ⊥
+no_token_at_fault bytes offset at t f b =
+    let start : t.start ≡ at = one_skip bytes offset t.start at b.skipped f.skipped in
     f.none t.kind t.end (subst (λ n. IsTokenAt bytes t.kind n t.end) start b.stands)
 
-pub one_fault : (bytes : List ℕ) (place at at' : ℕ) → IsFaultAt bytes place at → IsFaultAt bytes place at' → at ≡ at'
-one_fault bytes place at at' f g = one_skip bytes place at at' f.skipped g.skipped
+pub one_fault : (bytes : List ℕ) (offset at at' : ℕ) → IsFaultAt bytes offset at → IsFaultAt bytes offset at' → at ≡ at'
+one_fault bytes offset at at' f g = one_skip bytes offset at at' f.skipped g.skipped

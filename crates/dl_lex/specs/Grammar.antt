@@ -96,12 +96,12 @@ IsTokenAt bytes Number i j = IsRun bytes Number i j
 IsTokenAt bytes (Word keyword) i j = IsRun bytes (Word keyword) i j
 IsTokenAt bytes End i j = (i ≡ length bytes) × (j ≡ i)
 
--- the first token after the white space and comments that begin at a place
-pub record IsNextToken (bytes : List ℕ) (place : ℕ) (token : Token) : Type 0 where
-  pub skipped : Skips bytes place token.start
+-- the first token after the white space and comments that begin at an offset
+pub record IsNextToken (bytes : List ℕ) (offset : ℕ) (token : Token) : Type 0 where
+  pub skipped : Skips bytes offset token.start
   pub stands : IsTokenAt bytes token.kind token.start token.end
 
--- after the white space and comments that begin at a place no token begins
-pub record IsFaultAt (bytes : List ℕ) (place at : ℕ) : Type 0 where
-  pub skipped : Skips bytes place at
+-- after the white space and comments that begin at an offset no token begins
+pub record IsFaultAt (bytes : List ℕ) (offset at : ℕ) : Type 0 where
+  pub skipped : Skips bytes offset at
   pub none : (kind : TokenKind) (j : ℕ) → ¬ IsTokenAt bytes kind at j

@@ -1,4 +1,4 @@
--- What the functions of the lexer find at a place.
+-- What the functions of the lexer find at an offset.
 use Rattle.std.specs.Prelude.{◌≡◌, ◌≢◌, ◌⊎◌, ℕ, ◌<◌, ◌≤◌, ◌++◌, [], ◌∷◌, List, Option, MatchOption, length}
 use Rattle.std.specs.Str.{encode_utf8_all}
 use Rattle.dl_lex.specs.declared.token.TokenKind.{TokenKind}
@@ -6,16 +6,16 @@ use Rattle.dl_lex.specs.declared.token.Token.{Token}
 use Rattle.dl_lex.specs.Characters.{StandsAt}
 use Rattle.dl_lex.specs.Grammar.{Skips, IsQuoted, IsRunText, IsTokenAt}
 
--- no token begins at the place
+-- no token begins at the offset
 abbrev pub NoTokenAt : List ℕ → ℕ → Type 0
 NoTokenAt bytes at = (kind : TokenKind) (j : ℕ) → ¬ IsTokenAt bytes kind at j
 
--- the token stands at the place
+-- the token stands at the offset
 pub record IsTokenFrom (bytes : List ℕ) (at : ℕ) (token : Token) : Type 0 where
   pub starts : token.start ≡ at
   pub stands : IsTokenAt bytes token.kind at token.end
 
--- the token that stands at the place, if one does
+-- the token that stands at the offset, if one does
 abbrev pub IsScan : List ℕ → ℕ → Option Token → Type 0
 IsScan bytes at found = MatchOption found (NoTokenAt bytes at) (IsTokenFrom bytes at)
 

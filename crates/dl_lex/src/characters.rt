@@ -27,7 +27,7 @@ impl Class {
         }
     }
 
-    /// The place after the character past ASCII that stands at a place, if one does and the class has it.
+    /// The offset after the character past ASCII that stands at an offset, if one does and the class has it.
     fn wide_after(self, bytes: &[u8], at: usize) -> Option<usize>
         requires in_bounds { at < length bytes.now }
         requires wide { 128 ≤ slice_index bytes.now at }
@@ -41,6 +41,7 @@ impl Class {
     }
 }
 
+/// Whether the ASCII character may stand in an IRI. (`dl_names` has a test of bytes; this crate stands on none.)
 fn is_iri_character(byte: u8) -> bool
     ensures { result ≡ is_iri_character byte }
 {
@@ -52,6 +53,7 @@ fn is_iri_character(byte: u8) -> bool
             )
 }
 
+/// Whether the ASCII character may stand in a run: a word, a name with a prefix, a number.
 fn is_run_character(byte: u8) -> bool
     ensures { result ≡ is_run_character byte }
 {
@@ -72,7 +74,7 @@ pub fn run_end(bytes: &[u8], from: usize, class: Class) -> usize
     at
 }
 
-/// The place after the character that stands at a place, if the class has it.
+/// The offset after the character that stands at an offset, if the class has it.
 fn after(bytes: &[u8], at: usize, class: Class) -> Option<usize>
     requires { at ≤ length bytes.now }
     ensures { MatchOption result (NoCharacterAt (admits class) bytes.now at)
@@ -91,7 +93,7 @@ fn after(bytes: &[u8], at: usize, class: Class) -> Option<usize>
     Some(at + 1)
 }
 
-/// The place after the character that stands at a place, if one does.
+/// The offset after the character that stands at an offset, if one does.
 fn character_end(bytes: &[u8], at: usize) -> Option<usize>
     requires { at < length bytes.now }
     ensures { MatchOption result (NoCharacterAt (λ _. true) bytes.now at)

@@ -6,8 +6,6 @@ mod keyword;
 mod laws;
 mod lexer;
 mod scan;
-#[cfg(test)]
-mod tests;
 mod token;
 
 pub use keyword::Keyword;

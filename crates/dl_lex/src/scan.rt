@@ -1,4 +1,4 @@
-// What stands at a place of the bytes: white space, a comment, a token.
+// What stands at an offset of the bytes: white space, a comment, a token.
 ghost use Rattle.std.specs.Prelude.{◌≡◌, ◌≢◌, ℕ, ◌+◌, ◌<◌, ◌≤◌, ◌⊎◌, ◌↔◌, IsTrue, length, slice_index, MatchOption};
 ghost use Rattle.dl_lex.specs.Grammar.{Skips, is_white_space, is_node, is_number, IsRunText};
 ghost use Rattle.dl_lex.specs.Scanning.{IsScan, IsRestOfText, SkipsOne, IsEscapeAt, NoEscapeAt, IsRunByte, NoRunText};
@@ -7,7 +7,7 @@ use crate::characters::{Class, run_end};
 use crate::keyword::Keyword;
 use crate::token::{Token, TokenKind};
 
-/// The end of the white space and comments that begin at a place.
+/// The end of the white space and comments that begin at an offset.
 pub fn skip(bytes: &[u8], from: usize) -> usize
     requires { from ≤ length bytes.now }
     ensures { Skips bytes.now from result }
@@ -19,7 +19,7 @@ pub fn skip(bytes: &[u8], from: usize) -> usize
     at
 }
 
-/// The place after the white space or the comment that stands at a place, if one does.
+/// The offset after the white space or the comment that stands at an offset, if one does.
 fn after_blank(bytes: &[u8], at: usize) -> Option<usize>
     requires { at ≤ length bytes.now }
     ensures { MatchOption result (Skips bytes.now at at) (SkipsOne bytes.now at) }
@@ -36,13 +36,14 @@ fn after_blank(bytes: &[u8], at: usize) -> Option<usize>
     None
 }
 
+/// Whether the byte is white space.
 fn is_white_space(byte: u8) -> bool
     ensures { result ≡ is_white_space byte }
 {
     matches!(byte, b' ' | b'\t' | b'\r' | b'\n')
 }
 
-/// The token that stands at a place, if one does.
+/// The token that stands at an offset, if one does.
 pub fn token_at(bytes: &[u8], at: usize) -> Option<Token>
     requires { at ≤ length bytes.now }
     ensures { IsScan bytes.now at result }
@@ -62,19 +63,21 @@ pub fn token_at(bytes: &[u8], at: usize) -> Option<Token>
     }
 }
 
+/// The token of this kind and these bytes.
 fn found(kind: TokenKind, start: usize, end: usize) -> Option<Token>
     ensures { result ≡ Some (record { kind = kind; start = start; end = end }) }
 {
     Some(Token { kind, start, end })
 }
 
-/// Whether the byte stands at a place.
+/// Whether the byte stands at an offset.
 fn has_byte(bytes: &[u8], at: usize, byte: u8) -> bool
     ensures { IsTrue result ↔ ((at < length bytes.now) × (slice_index bytes.now at ≡ byte)) }
 {
     at < bytes.len() && bytes[at] == byte
 }
 
+/// The `^^` that begins at a `^`, if one does.
 fn caret(bytes: &[u8], at: usize) -> Option<Token>
     requires in_bounds { at < length bytes.now }
     requires caret { slice_index bytes.now at ≡ 94 }
@@ -86,6 +89,7 @@ fn caret(bytes: &[u8], at: usize) -> Option<Token>
     found(TokenKind::Caret, at, at + 2)
 }
 
+/// The full IRI that begins at a `<`, if it ends.
 fn iri(bytes: &[u8], at: usize) -> Option<Token>
     requires in_bounds { at < length bytes.now }
     requires opens { slice_index bytes.now at ≡ 60 }
@@ -98,6 +102,7 @@ fn iri(bytes: &[u8], at: usize) -> Option<Token>
     found(TokenKind::Iri, at, end + 1)
 }
 
+/// The string that begins at a `"`, if it ends.
 fn text(bytes: &[u8], at: usize) -> Option<Token>
     requires in_bounds { at < length bytes.now }
     requires opens { slice_index bytes.now at ≡ 34 }
@@ -107,7 +112,7 @@ fn text(bytes: &[u8], at: usize) -> Option<Token>
     found(TokenKind::Text, at, end)
 }
 
-/// The end of a string of which the opening `"` stands before a place, if it ends.
+/// The end of a string of which the opening `"` stands before an offset, if it ends.
 fn text_end(bytes: &[u8], from: usize) -> Option<usize>
     requires { from ≤ length bytes.now }
     ensures { MatchOption result ((j : ℕ) → ¬ IsRestOfText bytes.now from j)
@@ -123,7 +128,7 @@ fn text_end(bytes: &[u8], from: usize) -> Option<usize>
     Some(at + 1)
 }
 
-/// The place after the `\"` or `\\` that stands at a place, if one does.
+/// The offset after the `\"` or `\\` that stands at an offset, if one does.
 fn after_escape(bytes: &[u8], at: usize) -> Option<usize>
     requires { at ≤ length bytes.now }
     ensures { MatchOption result (NoEscapeAt bytes.now at) (IsEscapeAt bytes.now at) }
@@ -136,6 +141,7 @@ fn after_escape(bytes: &[u8], at: usize) -> Option<usize>
     None
 }
 
+/// The language tag that begins at an `@`, if a letter, a digit or `-` follows.
 fn lang(bytes: &[u8], at: usize) -> Option<Token>
     requires in_bounds { at < length bytes.now }
     requires opens { slice_index bytes.now at ≡ 64 }
@@ -148,6 +154,7 @@ fn lang(bytes: &[u8], at: usize) -> Option<Token>
     found(TokenKind::Lang, at, end)
 }
 
+/// The token of the run that stands at an offset, if it is one: a blank node, a short IRI, a number or a keyword.
 fn run(bytes: &[u8], at: usize) -> Option<Token>
     requires in_bounds { at < length bytes.now }
     requires plain { IsRunByte (slice_index bytes.now at) }
@@ -177,12 +184,14 @@ fn run_kind(text: &[u8]) -> Option<TokenKind>
     Keyword::of(text).map(TokenKind::Word)
 }
 
+/// Whether the text is a blank node: `_:` and more.
 fn is_node(text: &[u8]) -> bool
     ensures { result ≡ is_node text.now }
 {
     text.len() > 2 && text[0] == b'_' && text[1] == b':'
 }
 
+/// Whether all bytes of the text are digits.
 fn is_number(text: &[u8]) -> bool
     ensures { result ≡ is_number text.now }
 {

@@ -1,7 +1,7 @@
 use crate::keyword::Keyword;
 
 /// What a token is.
-#[derive(Clone, Copy, Debug, PartialEq, Eq)]
+#[derive(Clone, Copy, PartialEq, Eq)]
 pub enum TokenKind {
     /// `(`
     Open,
@@ -29,9 +29,9 @@ pub enum TokenKind {
     End,
 }
 
-/// A token and its place: `start` is its first byte, counted from 0, and `end` the place after its last byte. The whole
+/// A token and its offset: `start` is its first byte, counted from 0, and `end` the offset after its last byte. The whole
 /// token stands between them, with the `<` and `>` of an IRI, the quotes of a string and the `@` of a tag.
-#[derive(Clone, Copy, Debug, PartialEq, Eq)]
+#[derive(Clone, Copy, PartialEq, Eq)]
 pub struct Token {
     pub kind: TokenKind,
     pub start: usize,
@@ -39,7 +39,7 @@ pub struct Token {
 }
 
 /// No token begins at byte `at`, counted from 0.
-#[derive(Clone, Copy, Debug, PartialEq, Eq)]
+#[derive(Clone, Copy, PartialEq, Eq)]
 pub struct LexFault {
     pub at: usize,
 }

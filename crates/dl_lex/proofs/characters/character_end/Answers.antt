@@ -1,7 +1,7 @@
 use Rattle.std.proofs.Common.{◌≡◌, ◌+◌, ◌-◌, ℕ, take, drop, ap, subst, sym, ◌∙◌, arith}
 use Rattle.std.specs.Str.{IsUtf8}
 use Rattle.std.proofs.lemmas.Str.{IsUtf8-encode}
-use Rattle.dl_lex.proofs.Places.{character_width, window_of_character, character_of_window}
+use Rattle.dl_lex.proofs.Standing.{character_width, window_of_character, character_of_window}
 use Rattle.dl_lex.proofs.characters.character_end.Goals as goal
 
 pub returns-then-bytes-at : goal.returns-then-bytes-at

@@ -1,4 +1,4 @@
--- What stands at a place of bytes: texts, and characters in UTF-8.
+-- What stands at an offset of bytes: texts, and characters in UTF-8.
 use Rattle.std.proofs.Common.{◌≡◌, ℕ, ◌+◌, ◌<◌, ◌≤◌, ◌⊎◌, inl, inr, true, List, [], ◌∷◌, ◌++◌, length, get_or, take, drop, refl, sym, ap, ◌∙◌, append_assoc, length-append, length-drop, drop-cons, add-one, arith}
 use Rattle.std.proofs.Math.Utf8.{encode, encodes, scalar, scalars}
 use Rattle.std.specs.Str.{IsUtf8, continuation_len}
@@ -40,7 +40,7 @@ ascii_character bytes i j c s h low =
     let n = length-drop i bytes in
     char_from_byte (drop i bytes) (drop j bytes) c s.is (rw (front_byte bytes i) low) (omega arith) ∙ front_byte bytes i
 
--- a byte stands at its place
+-- a byte stands at its offset
 pub byte_stands : (bytes : List ℕ) (i c : ℕ) → i < length bytes → get_or bytes i 0 ≡ c → StandsAt bytes i (c ∷ []) (i + 1)
 byte_stands bytes i c h e = record {
   ends = refl;
@@ -58,7 +58,7 @@ wide_character bytes i j c s wide (inl low) =
     let same : get_or bytes i 0 ≡ c = sym (front_byte bytes i) ∙ byte_from_char (drop i bytes) (drop j bytes) c s.is low in
     absurd (omega arith)
 
--- the first byte of the character that stands at a place
+-- the first byte of the character that stands at an offset
 pub first_byte : (bytes : List ℕ) (i j c : ℕ) → StandsAt bytes i (encode c) j → get_or (encode c) 0 0 ≡ get_or bytes i 0
 first_byte bytes i j c s =
     let some = len_utf8_bounds c in
