@@ -1,26 +1,22 @@
 -- Laws of chains, over any relation.
-use Rattle.std.proofs.Common.{ℕ, zero, suc, refl, subst}
-use Rattle.dl_reach.specs.Chain.{Steps, Chain}
+use Rattle.dl_reach.specs.Chain.{Chain, empty, step}
 
 -- the empty chain
 pub Chain-refl : {A : Type 0} (Step : A → A → Type 0) (a : A) → Chain Step a a
-Chain-refl Step a = record { count = zero; steps = refl }
+Chain-refl Step a = empty
 
 -- a step in front of a chain
 pub Chain-cons : {A : Type 0} (Step : A → A → Type 0) (a b c : A) → Step a b → Chain Step b c → Chain Step a c
-Chain-cons Step a b c s h = record { count = suc h.count; steps = (b, s, h.steps) }
+Chain-cons Step a b c s h = step s h
 
 -- a step is a chain
 pub Chain-step : {A : Type 0} (Step : A → A → Type 0) (a b : A) → Step a b → Chain Step a b
 Chain-step Step a b s = Chain-cons Step a b b s (Chain-refl Step b)
 
-least_of_steps : {A : Type 0} (Step R : A → A → Type 0) → ((a : A) → R a a) → ((a b c : A) → Step a b → R b c → R a c) → (n : ℕ) (a b : A) → Steps Step n a b → R a b
-least_of_steps Step R empty more zero a b e = subst (λ x. R a x) e (empty a)
-least_of_steps Step R empty more (suc n) a b w = more a w.0 b w.1 (least_of_steps Step R empty more n w.0 b w.2)
-
 -- chains are the least relation that has the empty chain and takes steps in front: an induction on chains
 pub Chain-least : {A : Type 0} (Step R : A → A → Type 0) → ((a : A) → R a a) → ((a b c : A) → Step a b → R b c → R a c) → (a b : A) → Chain Step a b → R a b
-Chain-least Step R empty more a b h = least_of_steps Step R empty more h.count a b h.steps
+Chain-least Step R nothing more a b empty = nothing a
+Chain-least Step R nothing more a c (step {b = b} s h) = more a b c s (Chain-least Step R nothing more b c h)
 
 -- chains join
 pub Chain-trans : {A : Type 0} (Step : A → A → Type 0) (a b c : A) → Chain Step a b → Chain Step b c → Chain Step a c

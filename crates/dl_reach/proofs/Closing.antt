@@ -1,7 +1,7 @@
 -- Laws of uniting rows along pairs until nothing changes.
 use Rattle.std.proofs.Common.{◌≡◌, ℕ, ◌-◌, ◌*◌, ◌^◌, ◌<◌, ◌≤◌, ◌⊎◌, ◌↔◌, Bool, true, false, List, [], ◌∷◌, ◌++◌, length, get_or, sum, All, Contains, MatchBool, refl, sym, ap, ◌∙◌, subst, inl, inr, ⊎_elim, arith}
 use Rattle.std.proofs.lemmas.Bool.{false≢true, cases_Bool}
-use Rattle.std.proofs.lemmas.List.Elements.{All-push, All-contains, All-from_get_or, Contains-push, Contains-push_cases, Contains-append_left}
+use Rattle.std.proofs.lemmas.List.Elements.{All-nil, All-push, All-contains, All-from_get_or, Contains-push, Contains-push_cases, Contains-append_left}
 use Rattle.std.proofs.lemmas.List.Sums.{sum_by-le}
 use Rattle.dl_reach.specs.Chain.{Chain}
 use Rattle.dl_reach.specs.Digraph.{Leads}
@@ -37,6 +37,15 @@ pub record Followed (width : ℕ) (old new : List ℕ) (pairs : List (ℕ × ℕ
   pub rose : changed ≡ true → sum old < sum new
   pub same : changed ≡ false → new ≡ old
   pub all : changed ≡ false → All (λ p. IsFollowed old width p.0 p.1) pairs
+
+-- no pair was followed yet
+pub Followed-none : (width : ℕ) (words : List ℕ) → Followed width words words [] false
+Followed-none width words = record {
+  extends = Extends-refl width words;
+  rose = λ t. absurd (false≢true t);
+  same = λ _. refl;
+  all = λ _. All-nil (λ p. IsFollowed words width p.0 p.1);
+}
 
 -- one pair more, which changed something
 pub Followed-rose : (width : ℕ) (old new next : List ℕ) (pairs : List (ℕ × ℕ)) (pair : ℕ × ℕ) (changed : Bool) → Followed width old new pairs changed → Extends width new next → sum new < sum next → Followed width old next (pairs ++ pair ∷ []) true

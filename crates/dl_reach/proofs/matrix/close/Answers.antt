@@ -1,6 +1,9 @@
 use Rattle.std.proofs.Common.{◌<◌, arith, sum}
-use Rattle.dl_reach.proofs.Closing.{Extends-trans, less_room}
+use Rattle.dl_reach.proofs.Closing.{Extends-refl, Extends-trans, less_room}
 use Rattle.dl_reach.proofs.matrix.close.Goals as goal
+
+pub loop-init : goal.loop-init
+loop-init c = Extends-refl c.args.width c.args.words.now
 
 pub loop-smaller : goal.loop-smaller
 loop-smaller c =

@@ -1,7 +1,10 @@
 use Rattle.std.proofs.lemmas.List.{take_more, take_all}
-use Rattle.dl_reach.proofs.Closing.{Followed-rose, Followed-same, Followed-end}
+use Rattle.dl_reach.proofs.Closing.{Followed-none, Followed-rose, Followed-same, Followed-end}
 use Rattle.dl_reach.proofs.matrix.follow_all.Goals as goal
 use Rattle.dl_reach.proofs.matrix.follow_all.Goals.{then-follow, else-follow}
+
+pub loop-pair-init : goal.loop-pair-init
+loop-pair-init c = Followed-none c.args.width c.args.words.now
 
 pub loop-pair-preserved : goal.loop-pair-preserved
 loop-pair-preserved c =

@@ -1,6 +1,12 @@
 use Rattle.std.proofs.Common.{◌<◌, ◌≤◌, ⊎_elim, arith}
 use Rattle.std.proofs.lemmas.Bool.{cases_lt}
+use Rattle.dl_reach.specs.Chain.{empty}
 use Rattle.dl_reach.proofs.closure.Closure.class_of.Goals as goal
+
+pub least_connected-requires-clause-own : goal.least_connected-requires-clause-own
+least_connected-requires-clause-own c =
+    let chains = rw c.self.view_is at c.self.invariant.chains in
+    rw c.deref.ensures.value ((chains c.args.node c.args.node c.requires).1 empty)
 
 pub returns-clause-least : goal.returns-clause-least
 returns-clause-least c =
