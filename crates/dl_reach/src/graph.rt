@@ -5,12 +5,20 @@ ghost use Rattle.dl_reach.specs.Digraph.{Digraph, max_nodes, IsEdge, EndsBelow};
 
 use crate::closure::Closure;
 use crate::memory::NoMemory;
+use crate::order::order;
 use crate::search::{marked_nodes, reached};
 use std::alloc::{AllocError, Global};
 use std::marker::Model;
 
 /// The most nodes that a graph may have.
 pub const MAX_NODES: u32 = 16_384;
+
+/// Whether a graph may have so many nodes: at most `MAX_NODES`.
+pub fn fits(nodes: u32) -> bool
+    ensures { IsTrue result ↔ (nodes ≤ max_nodes) }
+{
+    nodes <= MAX_NODES
+}
 
 /// Whether both ends of each edge are nodes of a graph of so many.
 pub fn ends_below(nodes: u32, edges: &[(u32, u32)]) -> bool
@@ -40,7 +48,7 @@ impl Model for Graph {
 
 impl Graph {
     /// The graph of these nodes and edges, whatever their order, and however often each edge comes.
-    /// Fails only for want of memory. `ends_below` tests the edges.
+    /// Fails only for want of memory. `fits` tests the nodes, and `ends_below` the edges.
     pub fn new(alloc: Global, nodes: u32, edges: &[(u32, u32)]) -> Result<Graph, NoMemory>
         requires few { nodes ≤ max_nodes }
         requires in_range { EndsBelow nodes edges.now }
@@ -77,6 +85,14 @@ impl Graph {
             edges: Vec::from_slice(alloc, &self.edges)?,
         };
         Ok(Closure::of(alloc, graph)?)
+    }
+
+    /// Pairs of nodes along which the closure unites its rows, such that one pass makes each row whole. Nothing rests on that but its
+    /// speed, so no clause says it. Fails only for want of memory.
+    pub fn order(&self, alloc: Global) -> Result<Vec<(u32, u32)>, NoMemory>
+        ensures { IfOk result (λ pairs. EndsBelow self.now.nodes pairs.items) }
+    {
+        Ok(order(alloc, self.nodes, &self.edges)?)
     }
 
     /// The edges, sorted by their first node.

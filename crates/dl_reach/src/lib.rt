@@ -10,7 +10,7 @@ mod order;
 mod search;
 
 pub use closure::Closure;
-pub use graph::{Graph, MAX_NODES, ends_below};
+pub use graph::{Graph, MAX_NODES, ends_below, fits};
 pub use memory::NoMemory;
 
 #[cfg(test)]
