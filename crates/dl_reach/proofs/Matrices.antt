@@ -18,36 +18,36 @@ same_column : (b c : ℕ) → b / 64 ≡ c / 64 → b % 64 ≡ c % 64 → b ≡ 
 same_column b c p q = omega arith
 
 module _ (words : List ℕ) (width row column : ℕ) (fits : HasRow words width row) (inside : column < 64 * width) where
-  place : ℕ
-  place = row * width + column / 64
+  index : ℕ
+  index = row * width + column / 64
 
   marked : List ℕ
-  marked = set words place (bit_or (get_or words place 0) (1 * 2 ^ (column % 64) % 18446744073709551616))
+  marked = set words index (bit_or (get_or words index 0) (1 * 2 ^ (column % 64) % 18446744073709551616))
 
-  place_below : place < length words
-  unfolding place
-  place_below = let w = word_below width column inside in omega arith
+  index_below : index < length words
+  unfolding index
+  index_below = let w = word_below width column inside in omega arith
 
-  word_at : get_or marked place 0 ≡ bit_or (get_or words place 0) (1 * 2 ^ (column % 64) % 18446744073709551616)
+  word_at : get_or marked index 0 ≡ bit_or (get_or words index 0) (1 * 2 ^ (column % 64) % 18446744073709551616)
   unfolding marked
-  word_at = get_or-set_same words place (bit_or (get_or words place 0) (1 * 2 ^ (column % 64) % 18446744073709551616)) 0 place_below
+  word_at = get_or-set_same words index (bit_or (get_or words index 0) (1 * 2 ^ (column % 64) % 18446744073709551616)) 0 index_below
 
-  bit_here : bit_at (get_or marked place 0) (column % 64) ≡ 1
-  bit_here = ap (λ (v : ℕ). bit_at v (column % 64)) word_at ∙ bit_at_set_same w64 (get_or words place 0) (column % 64) (bit_below column)
+  bit_here : bit_at (get_or marked index 0) (column % 64) ≡ 1
+  bit_here = ap (λ (v : ℕ). bit_at v (column % 64)) word_at ∙ bit_at_set_same w64 (get_or words index 0) (column % 64) (bit_below column)
 
   bit_elsewhere : (a b : ℕ) → b < 64 * width → (a ≡ row → b ≡ column → ⊥) → bit_at (get_or marked (a * width + b / 64) 0) (b % 64) ≡ bit_at (get_or words (a * width + b / 64) 0) (b % 64)
-  unfolding place marked
+  unfolding index marked
   bit_elsewhere a b h ne =
       ⊎_elim
-      (λ (e : a * width + b / 64 ≡ place).
+      (λ (e : a * width + b / 64 ≡ index).
       let same = same_from_place a (b / 64) row (column / 64) width (word_below width b h) (word_below width column inside) e in
       let other : b % 64 ≢ column % 64 = λ q. ne same.0 (same_column b column same.1 q) in
-      ap (λ (i : ℕ). bit_at (get_or marked i 0) (b % 64)) e ∙ (ap (λ (v : ℕ). bit_at v (b % 64)) word_at ∙ (bit_at_set_other w64 (get_or words place 0) (column % 64) (bit_below column) (b % 64) other ∙ ap (λ (i : ℕ). bit_at (get_or words i 0) (b % 64)) (sym e))))
-      (λ (apart : a * width + b / 64 ≢ place). ap (λ (v : ℕ). bit_at v (b % 64)) (get_or-set_other words place (a * width + b / 64) (bit_or (get_or words place 0) (1 * 2 ^ (column % 64) % 18446744073709551616)) 0 apart))
-      (cases_eq (a * width + b / 64) place)
+      ap (λ (i : ℕ). bit_at (get_or marked i 0) (b % 64)) e ∙ (ap (λ (v : ℕ). bit_at v (b % 64)) word_at ∙ (bit_at_set_other w64 (get_or words index 0) (column % 64) (bit_below column) (b % 64) other ∙ ap (λ (i : ℕ). bit_at (get_or words i 0) (b % 64)) (sym e))))
+      (λ (apart : a * width + b / 64 ≢ index). ap (λ (v : ℕ). bit_at v (b % 64)) (get_or-set_other words index (a * width + b / 64) (bit_or (get_or words index 0) (1 * 2 ^ (column % 64) % 18446744073709551616)) 0 apart))
+      (cases_eq (a * width + b / 64) index)
 
   at_the_bit : (a b : ℕ) → a ≡ row → b ≡ column → HasBit marked width a b
-  unfolding place
+  unfolding index
   at_the_bit a b p q = record {
     in_row = subst (λ (x : ℕ). x < 64 * width) (sym q) inside;
     is_set = subst (λ (x : ℕ). bit_at (get_or marked (x * width + b / 64) 0) (b % 64) ≡ 1) (sym p) (subst (λ (x : ℕ). bit_at (get_or marked (row * width + x / 64) 0) (x % 64) ≡ 1) (sym q) bit_here);
@@ -62,7 +62,7 @@ module _ (words : List ℕ) (width row column : ℕ) (fits : HasRow words width 
 
 -- the bits after one is set
 pub HasBit-set : (words : List ℕ) (width row column : ℕ) → HasRow words width row → column < 64 * width → (a b : ℕ) → HasBit (set words (row * width + column / 64) (bit_or (get_or words (row * width + column / 64) 0) (1 * 2 ^ (column % 64) % 18446744073709551616))) width a b ↔ (HasBit words width a b ⊎ ((a ≡ row) × (b ≡ column)))
-unfolding place marked
+unfolding index marked
 HasBit-set words width row column fits inside = bits_set words width row column fits inside
 
 -- the first n words of one row have the bits of another too, and all else is as before

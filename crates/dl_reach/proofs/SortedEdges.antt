@@ -30,9 +30,9 @@ module _ (xs : List (ℕ × ℕ)) (lo hi node : ℕ) (fits : hi ≤ length xs) w
         let n : e.0 ≡ node = w.1 in
         let least : lo ≤ w.0.0 = ⊎_elim (λ (h : w.0.0 < lo). let b = below w.0.0 e (omega arith) h in omega arith) (λ (h : lo ≤ w.0.0). h) (cases_lt w.0.0 lo) in
         let most : w.0.0 < hi = ⊎_elim (λ (h : w.0.0 < hi). h) (λ (h : hi ≤ w.0.0). let b = high w.0.0 e h k in omega arith) (cases_lt w.0.0 hi) in
-        let place : lo + (w.0.0 - lo) ≡ w.0.0 = omega arith in
+        let back : lo + (w.0.0 - lo) ≡ w.0.0 = omega arith in
         let short : w.0.0 - lo < hi - lo = omega arith in
-        (w.0.0 - lo, omega (arith, part_length), part_at (w.0.0 - lo) e short ∙ (ap (λ (i : ℕ). get_or xs i e) place ∙ at)),
+        (w.0.0 - lo, omega (arith, part_length), part_at (w.0.0 - lo) e short ∙ (ap (λ (i : ℕ). get_or xs i e) back ∙ at)),
   )
 
 -- the edges of a node begin before those of the next

@@ -15,8 +15,8 @@ abbrev pub HasRow : List ℕ → ℕ → ℕ → Type 0
 HasRow words width row = row * width + width ≤ length words
 
 -- both numbers of each pair are rows, and columns
-abbrev pub ArePlaces : List ℕ → ℕ → List (ℕ × ℕ) → Type 0
-ArePlaces words width pairs =
+abbrev pub AreRows : List ℕ → ℕ → List (ℕ × ℕ) → Type 0
+AreRows words width pairs =
     All (λ p. HasRow words width p.0 × HasRow words width p.1 × (p.1 < 64 * width)) pairs
 
 -- the bits that were set are, and each bit that is set is a chain of bits that were

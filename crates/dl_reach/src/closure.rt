@@ -72,7 +72,7 @@ impl Closure {
     }
 }
 
-// The bits of all chains of the edges.
+/// The bits of all chains of the edges.
 fn chain_bits(
     alloc: Global,
     nodes: u32,
@@ -93,7 +93,7 @@ fn chain_bits(
     Ok(words)
 }
 
-// Sets the bits of all chains. The order only makes the last loop short: it may be any pairs of nodes.
+/// Sets the bits of all chains. The order only makes the last loop short: it may be any pairs of nodes.
 fn fill(words: &mut [u64], width: usize, nodes: u32, edges: &[(u32, u32)], order: &[(u32, u32)])
     requires empty { (a b : ℕ) → HasBit words.old width a b → ⊥ }
     requires len { length words.old ≡ nodes * width }
@@ -108,7 +108,7 @@ fn fill(words: &mut [u64], width: usize, nodes: u32, edges: &[(u32, u32)], order
     close(words, width, edges);
 }
 
-// The least node with bits both ways. Words of the node's row with no bit are passed over at once.
+/// The least node with bits both ways. Words of the node's row with no bit are passed over at once.
 fn least_connected(words: &[u64], width: usize, node: u32) -> u32
     requires rows { (node + 1) * width ≤ length words.now }
     requires columns { node < 64 * width }

@@ -9,13 +9,13 @@ pub fn edges_from(edges: &[(u32, u32)], node: u32) -> &[(u32, u32)]
     requires small { node + 1 < 2 ^ 32 }
     ensures { (e : ℕ × ℕ) → Contains result.now e ↔ (Contains edges.now e × (e.0 ≡ node)) }
 {
-    let start = place_of(edges, node);
-    let end = place_of(edges, node + 1);
+    let start = first_from(edges, node);
+    let end = first_from(edges, node + 1);
     &edges[start..end]
 }
 
-/// Where the edges that leave this node, or a later one, begin.
-pub fn place_of(edges: &[(u32, u32)], node: u32) -> usize
+/// The number of the first edge that leaves this node or a later one.
+pub fn first_from(edges: &[(u32, u32)], node: u32) -> usize
     requires { IsNonDecreasingBy (λ e. e.0) edges.now }
     ensures bound { result ≤ length edges.now }
     ensures before { AllWithin (λ e. e.0 < node) edges.now 0 result }

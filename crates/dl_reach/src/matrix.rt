@@ -2,7 +2,7 @@
 ghost use Rattle.std.specs.Prelude.{◌≡◌, ◌≢◌, ℕ, ◌+◌, ◌*◌, ◌<◌, ◌≤◌, ◌↔◌, ◌⊎◌, length, sum, IsTrue, All, Contains, MatchBool};
 ghost use Rattle.dl_reach.specs.Chain.{Chain};
 ghost use Rattle.dl_reach.specs.Digraph.{Leads, EndsBelow};
-ghost use Rattle.dl_reach.specs.Matrix.{HasBit, HasRow, ArePlaces, Extends, IsFollowed};
+ghost use Rattle.dl_reach.specs.Matrix.{HasBit, HasRow, AreRows, Extends, IsFollowed};
 
 /// Whether the bit of the row at the column is set.
 pub fn has_bit(words: &[u64], width: usize, row: usize, column: usize) -> bool
@@ -63,7 +63,7 @@ pub fn follow(words: &mut [u64], width: usize, row: usize, other: usize) -> bool
 
 /// Follows each pair once, in order, and says whether that changed anything.
 pub fn follow_all(words: &mut [u64], width: usize, pairs: &[(u32, u32)]) -> bool
-    requires { ArePlaces words.old width pairs.now }
+    requires { AreRows words.old width pairs.now }
     ensures extends { Extends width words.old words.new }
     ensures changed { MatchBool result
         (sum words.old < sum words.new)
@@ -80,7 +80,7 @@ pub fn follow_all(words: &mut [u64], width: usize, pairs: &[(u32, u32)]) -> bool
 
 /// Follows the pairs until that changes nothing.
 pub fn close(words: &mut [u64], width: usize, pairs: &[(u32, u32)])
-    requires { ArePlaces words.old width pairs.now }
+    requires { AreRows words.old width pairs.now }
     ensures extends { Extends width words.old words.new }
     ensures followed { All (λ p. IsFollowed words.new width p.0 p.1) pairs.now }
 {
@@ -89,7 +89,7 @@ pub fn close(words: &mut [u64], width: usize, pairs: &[(u32, u32)])
 
 /// Sets the bits of the pairs.
 pub fn set_bits(words: &mut [u64], width: usize, pairs: &[(u32, u32)])
-    requires { ArePlaces words.old width pairs.now }
+    requires { AreRows words.old width pairs.now }
     ensures { (a b : ℕ) → HasBit words.new width a b
         ↔ (HasBit words.old width a b ⊎ Contains pairs.now (a, b)) }
 {

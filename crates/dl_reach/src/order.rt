@@ -3,7 +3,7 @@ ghost use Rattle.std.specs.Prelude.{◌≡◌, ℕ, ◌+◌, ◌^◌, ◌<◌, �
 ghost use Rattle.std.specs.List.Sorted.{IsNonDecreasingBy};
 ghost use Rattle.dl_reach.specs.Digraph.{max_nodes, EndsBelow};
 
-use crate::edges::{edges_from, place_of};
+use crate::edges::{edges_from, first_from};
 use std::alloc::{AllocError, Global};
 
 /// Pairs of nodes along which to unite rows, such that each row is whole after one pass. Nothing rests on
@@ -16,7 +16,7 @@ pub fn order(alloc: Global, nodes: u32, edges: &[(u32, u32)]) -> Result<Vec<(u32
 {
     let mut search = Search::new(alloc, nodes)?;
     for root in 0..nodes {
-        if search.places[root as usize] == 0 {
+        if search.depths[root as usize] == 0 {
             search.run(root, edges)?;
         }
     }
@@ -24,15 +24,15 @@ pub fn order(alloc: Global, nodes: u32, edges: &[(u32, u32)]) -> Result<Vec<(u32
     Ok(pairs)
 }
 
-// A depth-first search over nodes and edges.
+/// A depth-first search over nodes and edges.
 #[derive(Drop)]
 struct Search {
     nodes: u32,
-    // for each node the place of the edge that comes next
+    // for each node the number of the edge that comes next
     next: Vec<usize>,
-    // for each node 0 before it is reached, then its place among the pending ones, from 1, and at last `CLOSED`
-    places: Vec<usize>,
-    // for each node the pending node with the least place that is known to be reached from it
+    // for each node 0 before it is reached, then how many nodes were pending with it, and at last `CLOSED`
+    depths: Vec<usize>,
+    // for each node the pending node with the least depth that is known to be reached from it
     lowest: Vec<u32>,
     // the nodes that were reached, and whose component is not whole yet
     pending: Vec<u32>,
@@ -42,7 +42,7 @@ struct Search {
     pairs: Vec<(u32, u32)>,
     ghost few: { nodes ≤ max_nodes },
     ghost next_len: { vec_len next ≡ nodes },
-    ghost places_len: { vec_len places ≡ nodes },
+    ghost depths_len: { vec_len depths ≡ nodes },
     ghost lowest_len: { vec_len lowest ≡ nodes },
     ghost lowest_below: { All (λ node. node < nodes) lowest.items },
     ghost pending_below: { All (λ node. node < nodes) pending.items },
@@ -50,9 +50,11 @@ struct Search {
     ghost pairs_below: { EndsBelow nodes pairs.items },
 }
 
+/// The depth of a node whose component is closed.
 const CLOSED: usize = usize::MAX;
 
 impl Search {
+    /// A search that has reached no node.
     fn new(alloc: Global, nodes: u32) -> Result<Search, AllocError>
         requires { nodes ≤ max_nodes }
         ensures { IfOk result (λ search. search.nodes ≡ nodes) }
@@ -60,7 +62,7 @@ impl Search {
         Ok(Search {
             nodes,
             next: vec![in alloc; 0; nodes as usize]?,
-            places: vec![in alloc; 0; nodes as usize]?,
+            depths: vec![in alloc; 0; nodes as usize]?,
             lowest: vec![in alloc; 0; nodes as usize]?,
             pending: Vec::new(alloc),
             path: Vec::new(alloc),
@@ -68,7 +70,7 @@ impl Search {
         })
     }
 
-    // Searches from a node. Each turn follows an edge or leaves a node.
+    /// Searches from a node. Each turn follows an edge or leaves a node.
     fn run(&mut self, root: u32, edges: &[(u32, u32)]) -> Result<(), AllocError>
         requires root { root < self.old.nodes }
         requires ends { EndsBelow self.old.nodes edges.now }
@@ -85,7 +87,7 @@ impl Search {
         Ok(())
     }
 
-    // Follows the next edge of the last node of the path, or leaves that node.
+    /// Follows the next edge of the last node of the path, or leaves that node.
     fn turn(&mut self, node: u32, edges: &[(u32, u32)]) -> Result<(), AllocError>
         requires node { node < self.old.nodes }
         requires ends { EndsBelow self.old.nodes edges.now }
@@ -99,13 +101,14 @@ impl Search {
         }
         self.next[node as usize] = at + 1;
         let to = edges[at].1;
-        if self.places[to as usize] == 0 {
+        if self.depths[to as usize] == 0 {
             return self.enter(to, edges);
         }
         self.lower(node, to);
         Ok(())
     }
 
+    /// Reaches a node: it is pending, and the last of the path.
     fn enter(&mut self, node: u32, edges: &[(u32, u32)]) -> Result<(), AllocError>
         requires node { node < self.old.nodes }
         requires sorted { IsNonDecreasingBy (λ e. e.0) edges.now }
@@ -113,25 +116,25 @@ impl Search {
     {
         self.pending.push(node)?;
         self.path.push(node)?;
-        self.places[node as usize] = self.pending.len();
-        self.next[node as usize] = place_of(edges, node);
+        self.depths[node as usize] = self.pending.len();
+        self.next[node as usize] = first_from(edges, node);
         self.lowest[node as usize] = node;
         Ok(())
     }
 
-    // Takes the node as reached from the other, where it is lower than what was.
+    /// Takes the node as reached from the other, where it is lower than what was.
     fn lower(&mut self, node: u32, reached: u32)
         requires node { node < self.old.nodes }
         requires reached { reached < self.old.nodes }
         ensures { self.new.nodes ≡ self.old.nodes }
     {
         let lowest = self.lowest[node as usize];
-        if self.places[reached as usize] < self.places[lowest as usize] {
+        if self.depths[reached as usize] < self.depths[lowest as usize] {
             self.lowest[node as usize] = reached;
         }
     }
 
-    // Ends the search of the edges of a node.
+    /// Ends the search of the edges of a node.
     fn leave(&mut self, node: u32, edges: &[(u32, u32)]) -> Result<(), AllocError>
         requires node { node < self.old.nodes }
         requires ends { EndsBelow self.old.nodes edges.now }
@@ -140,8 +143,8 @@ impl Search {
     {
         let lowest = self.lowest[node as usize];
         if lowest == node {
-            let place = self.places[node as usize];
-            self.close(place, edges)?;
+            let depth = self.depths[node as usize];
+            self.close(depth, edges)?;
         }
         if let Some(parent) = self.path.last().copied() {
             self.lower(parent, lowest);
@@ -149,25 +152,25 @@ impl Search {
         Ok(())
     }
 
-    // Closes the component of the pending nodes from a place on: first the edges of its nodes, which make the
-    // row of its first node whole, and then each node with a lower one.
-    fn close(&mut self, place: usize, edges: &[(u32, u32)]) -> Result<(), AllocError>
+    /// Closes the component of the pending nodes from a depth on: first the edges of its nodes, which make the
+    /// row of its first node whole, and then each node with a lower one.
+    fn close(&mut self, depth: usize, edges: &[(u32, u32)]) -> Result<(), AllocError>
         requires ends { EndsBelow self.old.nodes edges.now }
         requires sorted { IsNonDecreasingBy (λ e. e.0) edges.now }
         ensures { self.new.nodes ≡ self.old.nodes }
     {
-        let start = place.saturating_sub(1).min(self.pending.len());
+        let start = depth.saturating_sub(1).min(self.pending.len());
         self.push_edges(start, edges)?;
         for i in start..self.pending.len() {
             let node = self.pending[i];
             self.pairs.push((node, self.lowest[node as usize]))?;
-            self.places[node as usize] = CLOSED;
+            self.depths[node as usize] = CLOSED;
         }
         self.pending.truncate(start);
         Ok(())
     }
 
-    // Adds the edges of the pending nodes from an index on, those of the last reached first.
+    /// Adds the edges of the pending nodes from an index on, those of the last reached first.
     fn push_edges(&mut self, start: usize, edges: &[(u32, u32)]) -> Result<(), AllocError>
         requires ends { EndsBelow self.old.nodes edges.now }
         requires sorted { IsNonDecreasingBy (λ e. e.0) edges.now }

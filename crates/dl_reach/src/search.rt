@@ -34,7 +34,7 @@ pub fn reached(
     Ok(seen)
 }
 
-// Marks the second nodes of the edges.
+/// Marks the second nodes of the edges.
 fn mark_ends(
     edges: &[(u32, u32)],
     seen: &mut [bool],
@@ -51,7 +51,7 @@ fn mark_ends(
     Ok(())
 }
 
-// Marks a node, and puts it at the end of the found ones where it was not marked.
+/// Marks a node, and puts it at the end of the found ones where it was not marked.
 fn mark(node: u32, seen: &mut [bool], found: &mut Vec<u32>) -> Result<(), AllocError>
     requires in_range { node < length seen.old }
     requires marked { AreMarked seen.old found.old.items }

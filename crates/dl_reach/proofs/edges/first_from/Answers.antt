@@ -1,6 +1,6 @@
 use Rattle.std.proofs.Common.{ℕ, ltb, rules, tests}
 use Rattle.std.proofs.lemmas.List.Sorted.{IsPartitionedBy-ltb, IsPartitionPoint-from_clause}
-use Rattle.dl_reach.proofs.edges.place_of.Goals as goal
+use Rattle.dl_reach.proofs.edges.first_from.Goals as goal
 
 pub returns : goal.returns
 returns c =
