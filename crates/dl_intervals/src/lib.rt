@@ -3,8 +3,6 @@
 
 mod intervals;
 mod memory;
-#[cfg(test)]
-mod tests;
 
 pub use intervals::{Intervals, ascends, interval_lists_are_unique_and_fewest};
 pub use memory::NoMemory;

@@ -11,6 +11,3 @@ pub use fault::NameFault;
 pub use frozen::{Names, Ranks};
 pub use iris::{is_iri_byte, is_reserved, name_of};
 pub use set::{MAX_NAMES, NameSet};
-
-#[cfg(test)]
-mod tests;

@@ -12,6 +12,3 @@ mod search;
 pub use closure::Closure;
 pub use graph::{Graph, MAX_NODES, ends_below, fits};
 pub use memory::NoMemory;
-
-#[cfg(test)]
-mod tests;

@@ -21,6 +21,3 @@ pub use role::{Base, Basic, Negative, Normal, Role};
 pub use sets::set_of;
 pub use steps::Steps;
 pub use tuples::{Pair, Tuples};
-
-#[cfg(test)]
-mod tests;

@@ -1,0 +1,13 @@
+// Tests of the libraries: outside examples, and each public call once with ample memory. A loop over rows is a function that gives a bool.
+#![tactic(auto)]
+
+#[cfg(test)]
+mod intervals;
+#[cfg(test)]
+mod lex;
+#[cfg(test)]
+mod names;
+#[cfg(test)]
+mod reach;
+#[cfg(test)]
+mod terms;

@@ -1,0 +1,197 @@
+ghost use Rattle.std.specs.Prelude.{◌≡◌, ◌≤◌, length};
+
+use dl_names::{NameFault, NameSet, Names, Ranks, is_iri_byte, is_reserved, name_of};
+use dl_terms::Fact;
+use std::test::Fail;
+
+/// Texts in the order in which they come, each with its place by first occurrence.
+const PLACES: &[(&str, u32)] = &[
+    ("b", 0),
+    ("a", 1),
+    ("", 2),
+    ("ab", 3),
+    ("a", 1),
+    ("é", 4),
+    ("Z", 5),
+    ("b", 0),
+    ("a-long-name-of-more-than-one-word", 6),
+];
+
+/// The same texts by their bytes.
+const IN_ORDER: &[&str] = &[
+    "",
+    "Z",
+    "a",
+    "a-long-name-of-more-than-one-word",
+    "ab",
+    "b",
+    "é",
+];
+
+const MISSING: &[&str] = &["A", "a-", "aba", "c", "ê"];
+
+/// The rank of each place.
+const RANKS: [u32; 7] = [5, 2, 0, 4, 6, 1, 3];
+
+/// Whether each text gets its place.
+fn are_added(set: &mut NameSet, rows: &[(&str, u32)]) -> bool {
+    for row in rows {
+        if set.add(row.0) != Ok(row.1) {
+            return false;
+        }
+    }
+    true
+}
+
+/// Whether the names are these texts, and each is found by its text.
+fn are_in_order(names: &Names, texts: &[&str]) -> bool {
+    if names.len() as usize != texts.len() {
+        return false;
+    }
+    for n in 0..names.len() {
+        let text = names.text(n);
+        if text != texts[n as usize] || names.number(text) != Some(n) {
+            return false;
+        }
+    }
+    true
+}
+
+/// Whether none of the texts is a name.
+fn lacks(names: &Names, texts: &[&str]) -> bool {
+    for text in texts {
+        if names.number(text).is_some() {
+            return false;
+        }
+    }
+    true
+}
+
+/// Whether the places have these ranks.
+fn are_ranked(ranks: &Ranks, wanted: &[u32]) -> bool
+    requires as_many { length ranks.now ≡ length wanted.now }
+    requires few { length wanted.now ≤ 7 }
+{
+    for (place, rank) in wanted.iter().enumerate() {
+        if ranks.of(place as u32) != *rank {
+            return false;
+        }
+    }
+    true
+}
+
+#[test]
+fn places_by_first_occurrence_and_ranks_by_bytes(rt: HostRuntime) -> Result<(), Fail> {
+    let mut set = NameSet::new(rt.alloc());
+    assert!(rt; are_added(&mut set, PLACES));
+    let (names, ranks) = set.freeze()?;
+    assert!(rt; names.len() == 7);
+    assert!(rt; !names.is_empty());
+    assert!(rt; are_in_order(&names, IN_ORDER));
+    assert!(rt; lacks(&names, MISSING));
+    assert!(rt; are_ranked(&ranks, &RANKS));
+    Ok(())
+}
+
+const FEW: &[(&str, u32)] = &[("b", 0), ("c", 1), ("a", 2)];
+
+/// Whether facts over the three places become these facts over numbers.
+fn are_ranked_facts(ranks: &Ranks) -> bool
+    requires { length ranks.now ≡ 3 }
+{
+    let mut facts = [
+        Fact::Is { class: 0, who: 1 },
+        Fact::Link {
+            role: 2,
+            from: 0,
+            to: 2,
+        },
+    ];
+    ranks.rank_facts(&mut facts);
+    facts[0] == Fact::Is { class: 1, who: 2 }
+        && facts[1]
+            == Fact::Link {
+                role: 0,
+                from: 1,
+                to: 0,
+            }
+}
+
+#[test]
+fn facts_get_their_numbers(rt: HostRuntime) -> Result<(), Fail> {
+    let mut set = NameSet::new(rt.alloc());
+    assert!(rt; are_added(&mut set, FEW));
+    let (names, ranks) = set.freeze()?;
+    assert!(rt; names.len() == 3);
+    assert!(rt; are_ranked_facts(&ranks));
+    Ok(())
+}
+
+const TWICE: &[(&str, u32)] = &[
+    ("b", 0),
+    ("a", 1),
+    ("b", 0),
+    ("a-long-name-of-more-than-one-word", 2),
+    ("a", 1),
+];
+
+/// Whether each text gets its place, at a second try where a growth was refused.
+fn are_added_again(set: &mut NameSet, rows: &[(&str, u32)]) -> bool {
+    for row in rows {
+        let added = match set.add(row.0) {
+            Err(NameFault::NoMemory) => set.add(row.0),
+            other => other,
+        };
+        if added != Ok(row.1) {
+            return false;
+        }
+    }
+    true
+}
+
+// With a growth refused, as by `rt try --test --fail-alloc N`, the names are as before, so that a second try gives the same place.
+#[test]
+fn a_second_try_after_a_refusal(rt: HostRuntime) {
+    let mut set = NameSet::new(rt.alloc());
+    assert!(rt; are_added_again(&mut set, TWICE));
+}
+
+/// IRIs, and whether they are reserved.
+const IRIS: &[(&[u8], bool)] = &[
+    (b"http://www.w3.org/2002/07/owl#Thing", true),
+    (b"http://www.w3.org/2002/07/owl#", true),
+    (b"http://www.w3.org/2002/07/owl", false),
+    (b"http://www.w3.org/1999/02/22-rdf-syntax-ns#type", true),
+    (b"http://www.w3.org/2000/01/rdf-schema#label", true),
+    (b"http://www.w3.org/2001/XMLSchema#string", true),
+    (b"http://www.w3.org/2004/02/skos/core#Concept", false),
+    (b"", false),
+];
+
+fn are_told_reserved(rows: &[(&[u8], bool)]) -> bool {
+    for row in rows {
+        if is_reserved(row.0) != row.1 {
+            return false;
+        }
+    }
+    true
+}
+
+/// Whether bytes that no IRI has are told, and others are not.
+fn are_told_apart(excluded: &[u8], others: &[u8]) -> bool {
+    !excluded.iter().any(|byte| is_iri_byte(*byte)) && others.iter().all(|byte| is_iri_byte(*byte))
+}
+
+#[test]
+fn iris_and_names(rt: HostRuntime) {
+    assert!(rt; are_told_reserved(IRIS));
+    assert!(rt;
+        are_told_apart(
+            b"\x00\t\n\r <>\"{}|^`\\",
+            b"!#%&'()*+,-./09:;=?@AZ[]_az~\x7F\xC3\xA9"
+        )
+    );
+    assert!(rt; name_of(b"a:b").is_some());
+    assert!(rt; name_of(b"\xFF").is_none());
+    assert!(rt; name_of(b"http://www.w3.org/2002/07/owl#Thing").is_none());
+}

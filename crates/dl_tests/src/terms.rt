@@ -1,0 +1,173 @@
+ghost use Rattle.std.specs.Prelude.{◌≡◌, ◌<◌, length};
+
+use dl_terms::{
+    Axiom, Base, Basic, Fact, List, NoMemory, Part, Role, Steps, Tuples, axioms_are_ordered,
+    facts_are_ordered, roles_are_ordered, set_of,
+};
+use std::alloc::Global;
+use std::marker::Brand;
+use std::sync::ledger::{Blank, Ledger};
+use std::test::Fail;
+
+const P: Role = Role {
+    base: Base::Named(7),
+    inverse: false,
+};
+
+const INVERSE: Role = Role {
+    base: Base::Named(7),
+    inverse: true,
+};
+
+const FILLER: Role = Role {
+    base: Base::Filler {
+        role: 0,
+        inverse: false,
+        class: 0,
+    },
+    inverse: false,
+};
+
+/// Axioms that are below a class or "some r", with one part on the right or none, in their order.
+const INCLUSIONS: [(Basic, Option<Part>); 7] = [
+    (Basic::Class(1), None),
+    (Basic::Class(1), Some(Part::Thing)),
+    (Basic::Class(1), Some(Part::Any(P))),
+    (Basic::Class(2), Some(Part::Thing)),
+    (Basic::SomeOf(P), Some(Part::Thing)),
+    (Basic::SomeOf(INVERSE), Some(Part::Thing)),
+    (Basic::SomeOf(FILLER), Some(Part::Thing)),
+];
+
+fn below(alloc: Global, sub: Basic, part: Option<Part>) -> Result<Axiom, NoMemory> {
+    let mut sup = List::new(alloc);
+    if let Some(part) = part {
+        sup.push(part)?;
+    }
+    Ok(Axiom::SubClass { sub, sup })
+}
+
+fn disjoint(alloc: Global, class: u32) -> Result<Axiom, NoMemory> {
+    let mut classes = List::new(alloc);
+    classes.push(Basic::Class(class))?;
+    Ok(Axiom::DisjointClasses(classes))
+}
+
+fn push_inclusions(
+    alloc: Global,
+    axioms: &mut List<Axiom>,
+    rows: &[(Basic, Option<Part>)],
+) -> Result<(), NoMemory> {
+    for row in rows {
+        axioms.push(below(alloc, row.0, row.1)?)?;
+    }
+    Ok(())
+}
+
+/// Axioms in their order: by kind, and then by operands from left to right.
+fn ascending_axioms(alloc: Global) -> Result<List<Axiom>, NoMemory> {
+    let mut axioms = List::new(alloc);
+    push_inclusions(alloc, &mut axioms, &INCLUSIONS)?;
+    axioms.push(disjoint(alloc, 1)?)?;
+    axioms.push(Axiom::SubRole {
+        sub: P,
+        sup: INVERSE,
+    })?;
+    axioms.push(Axiom::Symmetric(P))?;
+    axioms.push(Axiom::Irreflexive(P))?;
+    Ok(axioms)
+}
+
+/// Whether the axiom compares with each as their indices do.
+fn compares(axiom: &Axiom, index: usize, axioms: &[Axiom]) -> bool {
+    for (other, there) in axioms.iter().enumerate() {
+        if axiom.cmp(there) != index.cmp(&other) {
+            return false;
+        }
+    }
+    true
+}
+
+/// Whether the axioms ascend.
+fn ascend(axioms: &[Axiom]) -> bool {
+    for (index, axiom) in axioms.iter().enumerate() {
+        if !compares(axiom, index, axioms) {
+            return false;
+        }
+    }
+    true
+}
+
+const IS: Fact = Fact::Is { class: 9, who: 9 };
+
+const LINK: Fact = Fact::Link {
+    role: 1,
+    from: 1,
+    to: 1,
+};
+
+#[test]
+fn axioms_ascend(rt: HostRuntime) -> Result<(), Fail> {
+    roles_are_ordered();
+    axioms_are_ordered();
+    facts_are_ordered();
+    let axioms = ascending_axioms(rt.alloc())?;
+    assert!(rt; axioms.len() == 11);
+    assert!(rt; axioms.get(11).is_none());
+    assert!(rt; ascend(axioms.as_slice()));
+    assert!(rt; IS < LINK);
+    Ok(())
+}
+
+/// Whether the tuples of two names have these, in order.
+fn have(tuples: &Tuples, rows: &[(u32, u32)]) -> bool
+    requires as_many { length tuples.now.tuples ≡ length rows.now }
+    requires twos { tuples.now.width ≡ 2 }
+{
+    for (index, row) in rows.iter().enumerate() {
+        if (tuples.name(index as u64, 0), tuples.name(index as u64, 1)) != *row {
+            return false;
+        }
+    }
+    true
+}
+
+#[test]
+fn tuples_keep_their_names(rt: HostRuntime) -> Result<(), Fail> {
+    let mut tuples = Tuples::new(rt.alloc(), 2);
+    tuples.push(&[3, 1])?;
+    tuples.push(&[0, 9])?;
+    tuples.push(&[3, 1])?;
+    assert!(rt; tuples.width() == 2);
+    assert!(rt; tuples.len() == 3);
+    assert!(rt; have(&tuples, &[(3, 1), (0, 9), (3, 1)]));
+    Ok(())
+}
+
+#[test]
+fn lists_become_sets(rt: HostRuntime) -> Result<(), Fail> {
+    let items = [3, 1, 3, 2, 1].to_vec(rt.alloc())?;
+    let mut list = List::of(items);
+    list.as_mut_slice().reverse();
+    assert!(rt; list.as_slice() == [1, 2, 3, 1, 3].as_slice());
+    let set = set_of(list).into_vec();
+    assert!(rt; set.as_slice() == [1, 2, 3].as_slice());
+    Ok(())
+}
+
+/// Takes three steps.
+fn take_three<L: Ledger>(blank: Blank)
+    requires name { blank.name ≡ L.name }
+    requires parts { blank.parts ≡ L.parts }
+    requires divided { 0 < L.parts }
+{
+    let mut steps = Steps::<L>::new(blank);
+    steps.tick();
+    steps.tick();
+    steps.tick();
+}
+
+#[test]
+fn steps_are_taken(rt: HostRuntime) {
+    take_three::<Brand>(Blank::new(1));
+}
