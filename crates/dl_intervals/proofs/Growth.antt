@@ -10,9 +10,9 @@ use Rattle.dl_intervals.specs.Intervals.{Interval, IsWithin, Holds, IsIntervalLi
 use Rattle.dl_intervals.specs.Growing.{BeginBy, Adds, Merges, IsNext}
 use Rattle.dl_intervals.proofs.Lists.{Any-nil}
 
--- an element at a place of the list
-at_place : {X : Type 0} (P : X → Type 0) (xs : List X) (k : ℕ) (d : X) → k < length xs → P (get_or xs k d) → Any P xs
-at_place P xs k d h p = (k, get_or xs k d, h, get_or_default xs k (get_or xs k d) d h, p)
+-- an element at an index of the list
+at_index : {X : Type 0} (P : X → Type 0) (xs : List X) (k : ℕ) (d : X) → k < length xs → P (get_or xs k d) → Any P xs
+at_index P xs k d h p = (k, get_or xs k d, h, get_or_default xs k (get_or xs k d) d h, p)
 
 -- an element with P is one of the old ones or the one that was pushed
 Any-push_cases : {X : Type 0} (P : X → Type 0) (xs : List X) (y : X) → Any P (xs ++ y ∷ []) → Any P xs ⊎ P y
@@ -48,7 +48,7 @@ Adds-push xs next s small later inhabited next_small before = record {
   numbers = λ n. (Any-push_cases (IsWithin n) xs next, λ w. elim w [ inl h ↦ Any-push_old (IsWithin n) xs next h | inr h ↦ Any-push_new (IsWithin n) xs next h ]);
 }
 
--- the elements at two places of which the second may be the one that was written at the end
+-- the elements at two indices of which the second may be the one that was written at the end
 AllPairs-write_last : {X : Type 0} (R : X → X → Type 0) (xs : List X) (k : ℕ) (m : X) → k + 1 ≡ length xs → AllPairs R xs → ((i : ℕ) (d : X) → i < k → R (get_or xs i d) m) → AllPairs R (set xs k m)
 AllPairs-write_last R xs k m hk all last = λ i j d lt h.
     let n = length-set xs k m in

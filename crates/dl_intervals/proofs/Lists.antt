@@ -28,7 +28,7 @@ AllPairs-head R x xs all = λ k d h. all 0 (suc k) d (omega arith) (omega arith)
 pub AllPairs-tail : {X : Type 0} (R : X → X → Type 0) (x : X) (xs : List X) → AllPairs R (x ∷ xs) → AllPairs R xs
 AllPairs-tail R x xs all = λ i j d lt h. all (suc i) (suc j) d (omega arith) (omega arith)
 
--- an element with P at another place than the removed one stays
+-- an element with P at another index than the removed one stays
 Any-remove : {X : Type 0} (P : X → Type 0) (xs : List X) (i k : ℕ) (y : X) → i < length xs → k < length xs → get_or xs k y ≡ y → P y → (k < i) ⊎ (i < k) → Any P (remove xs i)
 Any-remove P xs i k y hi hk e p (inl lt) =
     (k, y, omega (arith, length-remove xs i hi), rw (get_or-remove_below xs i y k lt hi) e, p)
@@ -36,11 +36,11 @@ Any-remove P xs i zero y hi hk e p (inr gt) = absurd (omega arith)
 Any-remove P xs i (suc k) y hi hk e p (inr gt) =
     (k, y, omega (arith, length-remove xs i hi), rw (get_or-remove_above xs i y k (omega arith) hi) (let same : k + 1 ≡ suc k = omega arith in rw same e), p)
 
--- what stands at one place of a list is one element
+-- what stands at one index of a list is one element
 meet : {X : Type 0} (xs : List X) (i k : ℕ) (x y : X) → i < length xs → i ≡ k → get_or xs i x ≡ x → get_or xs k y ≡ y → y ≡ x
 meet xs i k x y h same p q = sym q ∙ (ap (λ j. get_or xs j y) (sym same) ∙ (get_or_default xs i y x h ∙ p))
 
--- what is related to another element stands elsewhere, and stays when that place is removed
+-- what is related to another element stands elsewhere, and stays when that index is removed
 other : {X Y : Type 0} (R : X → Y → Type 0) (x z : X) (ys : List Y) (here : Any (R x) ys) → Any (R z) ys → ((y : Y) → R x y → R z y → ⊥) → Any (R z) (remove ys here.0)
 other R x z ys here there never =
     elim (cases_order there.0 here.0) [

@@ -71,7 +71,7 @@ impl Intervals {
         self.items.len() as u32
     }
 
-    /// The interval at a place, as its first and its last number.
+    /// The interval at an index, as its first and its last number.
     pub fn get(&self, i: u32) -> (u32, u32)
         requires { i < length self.now }
         ensures item { slice_get self.now i ≡ Some result }
