@@ -28,7 +28,7 @@ pub fn run<R: AllocGlobal + Print>(rt: &R, words: &[String]) -> io::Result<bool>
     Ok(true)
 }
 
-// How many tokens the bytes have up to the end or the first fault.
+/// How many tokens the bytes have up to the end or the first fault.
 fn count(bytes: &[u8]) -> u64 {
     let mut lexer = Lexer::new(bytes);
     let mut tokens = 0u64;
@@ -41,8 +41,8 @@ fn count(bytes: &[u8]) -> u64 {
     tokens
 }
 
-// A text of axioms, a third of each kind: an inclusion in a class, an inclusion in the domain of a role, and
-// a fact of a role.
+/// A text of axioms, a third of each kind: an inclusion in a class, an inclusion in the domain of a role, and
+/// a fact of a role.
 fn text_of(alloc: Global, axioms: u32) -> Result<String, AllocError> {
     let mut text = String::new(alloc);
     for i in 0..axioms {

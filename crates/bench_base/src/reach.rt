@@ -2,7 +2,7 @@
 ghost use Rattle.std.specs.Prelude.{◌≡◌, ◌<◌, ◌≤◌, IfOk, IfSome, OnOk};
 ghost use Rattle.dl_reach.specs.Digraph.{EndsBelow};
 
-use dl_reach::{Graph, MAX_NODES};
+use dl_reach::{Graph, fits};
 use std::alloc::{AllocError, Global};
 use std::io;
 
@@ -23,7 +23,7 @@ pub fn run<R: AllocGlobal + Print>(rt: &R, words: &[String]) -> io::Result<bool>
     else {
         return Ok(false);
     };
-    if nodes == 0 || nodes > MAX_NODES {
+    if nodes == 0 || !fits(nodes) {
         return Ok(false);
     }
     let Some(edges) = edges_of(rt.alloc(), shape.as_str(), nodes, extra)? else {
@@ -40,7 +40,7 @@ pub fn run<R: AllocGlobal + Print>(rt: &R, words: &[String]) -> io::Result<bool>
     Ok(true)
 }
 
-// How many nodes a search from the last node reaches.
+/// How many nodes a search from the last node reaches.
 fn search(alloc: Global, graph: &Graph) -> Result<usize, AllocError>
     requires { 0 < graph.now.nodes }
 {
@@ -49,7 +49,7 @@ fn search(alloc: Global, graph: &Graph) -> Result<usize, AllocError>
     Ok(found.len())
 }
 
-// How many nodes are reached from the last node, by the closure.
+/// How many nodes are reached from the last node, by the closure.
 fn close(alloc: Global, graph: &Graph) -> Result<usize, AllocError>
     requires { 0 < graph.now.nodes }
 {
@@ -64,7 +64,7 @@ fn close(alloc: Global, graph: &Graph) -> Result<usize, AllocError>
     Ok(reached)
 }
 
-// How many classes of nodes that reach each other there are.
+/// How many classes of nodes that reach each other there are.
 fn classes(alloc: Global, graph: &Graph) -> Result<usize, AllocError> {
     let closure = graph.closure(alloc).map_err(|_refused| AllocError)?;
     let mut count: usize = 0;
@@ -76,8 +76,8 @@ fn classes(alloc: Global, graph: &Graph) -> Result<usize, AllocError> {
     Ok(count)
 }
 
-// A binary tree with edges to the parents and more edges: of a tree to smaller nodes, of a tangle any way, or
-// else back to the children.
+/// A binary tree with edges to the parents and more edges: of a tree to smaller nodes, of a tangle any way, or
+/// else back to the children.
 fn edges_of(
     alloc: Global,
     shape: &str,
@@ -98,7 +98,7 @@ fn edges_of(
     Ok(Some(edges))
 }
 
-// The edges of a binary tree to the parents, or both ways.
+/// The edges of a binary tree to the parents, or both ways.
 fn push_parents(edges: &mut Vec<(u32, u32)>, nodes: u32, both: bool) -> Result<(), AllocError>
     requires { EndsBelow nodes edges.old.items }
     ensures { OnOk result (EndsBelow nodes edges.new.items) }
@@ -113,7 +113,7 @@ fn push_parents(edges: &mut Vec<(u32, u32)>, nodes: u32, both: bool) -> Result<(
     Ok(())
 }
 
-// Edges between nodes far apart, all to smaller nodes or any way.
+/// Edges between nodes far apart, all to smaller nodes or any way.
 fn push_more(
     edges: &mut Vec<(u32, u32)>,
     nodes: u32,
