@@ -30,7 +30,7 @@ use Rattle.dl_terms.proofs.OrderLemmas.{axioms_linear}
 use Rattle.dl_terms.proofs.MatchLemmas.{IsMet-by_index, HoldsAtName-class, HoldsAt-no_fact, is_one_of}
 
 -- where the first negative of all is met, its axiom is the first broken one
-IsFirstBroken-head : (axioms : List Axiom) (facts : List Fact) (nothing : Option ℕ) (broken : Option Axiom) (n : Negative)
+pub IsFirstBroken-head : (axioms : List Axiom) (facts : List Fact) (nothing : Option ℕ) (broken : Option Axiom) (n : Negative)
     (after : List (Option Axiom × Negative)) → negatives axioms nothing ≡ (broken, n) ∷ after → IsMet axioms facts n
     → IsFirstBroken axioms facts nothing broken
 IsFirstBroken-head axioms facts nothing broken n after e met =

@@ -1,3 +1,6 @@
 mod AnswerExampleLemmas
 mod BrokenExampleLemmas
+mod PlainLemmas
+mod NegativeExampleLemmas
+mod QueryExampleLemmas
 mod ReplyExampleLemmas

@@ -1,12 +1,12 @@
 -- The ontologies and queries of the worked examples, in functional syntax and as lists. Numbers stand for names.
-use Rattle.std.specs.Prelude.{ℕ, suc, List, [], ◌∷◌, map}
+use Rattle.std.specs.Prelude.{ℕ, suc, List, [], ◌∷◌, map, replicate}
 use Rattle.std.specs.List.{range_with_len}
 use Rattle.dl_terms.specs.Roles.{named, inverse_of, filler_of}
 use Rattle.dl_terms.specs.declared.role.Role.{Role}
 use Rattle.dl_terms.specs.declared.role.Basic.TheVariants as basic
 use Rattle.dl_terms.specs.declared.axiom.Part.TheVariants as part
 use Rattle.dl_terms.specs.declared.axiom.Axiom.{Axiom}
-use Rattle.dl_terms.specs.declared.axiom.Axiom.TheVariants.{SubClass, DisjointClasses, SubRole, Asymmetric, Irreflexive}
+use Rattle.dl_terms.specs.declared.axiom.Axiom.TheVariants.{SubClass, DisjointClasses, SubRole, DisjointRoles, Asymmetric, Irreflexive}
 use Rattle.dl_terms.specs.declared.axiom.Fact.{Fact}
 use Rattle.dl_terms.specs.declared.axiom.Fact.TheVariants as fact
 use Rattle.dl_terms.specs.declared.query.Term.TheVariants.{Var}
@@ -61,6 +61,10 @@ a_is_an_a = fact.Is class_a name_a
 abbrev pub a_and_c_are_as : List Fact
 a_and_c_are_as = fact.Is class_a name_a ∷ fact.Is class_a name_c ∷ []
 
+-- ClassAssertion(A b)
+abbrev pub b_is_an_a : Fact
+b_is_an_a = fact.Is class_a name_b
+
 -- ObjectPropertyAssertion(P a b)
 abbrev pub p_from_a_to_b : Fact
 p_from_a_to_b = fact.Link property_p name_a name_b
@@ -68,6 +72,18 @@ p_from_a_to_b = fact.Link property_p name_a name_b
 -- ObjectPropertyAssertion(P a a)
 abbrev pub p_from_a_to_a : Fact
 p_from_a_to_a = fact.Link property_p name_a name_a
+
+-- ObjectPropertyAssertion(S a b)
+abbrev pub s_from_a_to_b : Fact
+s_from_a_to_b = fact.Link property_s name_a name_b
+
+-- ObjectPropertyAssertion(S a c)
+abbrev pub s_from_a_to_c : Fact
+s_from_a_to_c = fact.Link property_s name_a name_c
+
+-- ObjectPropertyAssertion(S b a)
+abbrev pub s_from_b_to_a : Fact
+s_from_b_to_a = fact.Link property_s name_b name_a
 
 -- SubClassOf(A ObjectSomeValuesFrom(P owl:Thing))
 abbrev pub a_has_a_p : Axiom
@@ -92,6 +108,22 @@ a_p_is_a_d = SubClass (basic.SomeOf (inverse_of role_p)) (part.Class class_d ∷
 -- DisjointClasses(C D)
 abbrev pub c_and_d_are_disjoint : Axiom
 c_and_d_are_disjoint = DisjointClasses (basic.Class class_c ∷ basic.Class class_d ∷ [])
+
+-- DisjointClasses(ObjectSomeValuesFrom(P owl:Thing) ObjectSomeValuesFrom(S owl:Thing))
+abbrev pub no_p_beside_an_s : Axiom
+no_p_beside_an_s = DisjointClasses (basic.SomeOf role_p ∷ basic.SomeOf role_s ∷ [])
+
+-- DisjointClasses(ObjectSomeValuesFrom(ObjectInverseOf(P) owl:Thing) A)
+abbrev pub a_p_is_no_a : Axiom
+a_p_is_no_a = DisjointClasses (basic.SomeOf (inverse_of role_p) ∷ basic.Class class_a ∷ [])
+
+-- DisjointClasses(A ObjectSomeValuesFrom(ObjectInverseOf(P) owl:Thing))
+abbrev pub an_a_is_no_p : Axiom
+an_a_is_no_p = DisjointClasses (basic.Class class_a ∷ basic.SomeOf (inverse_of role_p) ∷ [])
+
+-- DisjointObjectProperties(P ObjectInverseOf(S))
+abbrev pub p_is_no_turned_s : Axiom
+p_is_no_turned_s = DisjointRoles (role_p ∷ inverse_of role_s ∷ [])
 
 -- SubObjectPropertyOf(P ObjectInverseOf(S))
 abbrev pub p_is_a_turned_s : Axiom
@@ -157,3 +189,11 @@ unsafe_head = record { head = 0 ∷ 1 ∷ []; atoms = link property_p 0 0 ∷ []
 -- q(x) :- P(x, v1), .., P(x, vn)
 abbrev pub has_neighbours : ℕ → Query
 has_neighbours n = record { head = 0 ∷ []; atoms = map (link property_p 0) (range_with_len 1 n); vars = suc n }
+
+-- q() :- P(x, y), .., P(x, y), with so many atoms
+abbrev pub some_p : ℕ → Query
+some_p n = record { head = []; atoms = replicate n (link property_p 0 1); vars = 2 }
+
+-- q(x, .., x) :- P(x, y), with so many places in the head
+abbrev pub with_a_p : ℕ → Query
+with_a_p n = record { head = replicate n 0; atoms = link property_p 0 1 ∷ []; vars = 2 }

@@ -9,7 +9,7 @@ ghost use Rattle.dl_terms.specs.Order.{axiom_cmp};
 ghost use Rattle.dl_terms.specs.Queries.{IsWellFormed};
 ghost use Rattle.dl_terms.specs.Reply.{IsReply, found, too_many, inconsistent};
 ghost use Rattle.dl_terms.specs.Sets.{IsSetOf};
-ghost use Rattle.dl_examples.specs.Examples.{class_a, class_c, class_d, role_p, role_s, p_in_c, name_a, name_b, name_c, a_is_an_a, a_and_c_are_as, p_from_a_to_b, p_from_a_to_a, a_has_a_p, a_p_has_an_s, a_p_has_a_p, p_is_a_turned_s, a_filler_in_c_and_d, c_and_d_are_disjoint, p_is_asymmetric, p_is_irreflexive, an_a_is_a_d, a_is_disjoint_from_itself, has_a_p, is_p, share_a_p, has_a_p_with_an_s, some_loop, seven_in_a_row, is_s, unsafe_head, has_neighbours};
+ghost use Rattle.dl_examples.specs.Examples.{class_a, class_c, class_d, role_p, role_s, p_in_c, name_a, name_b, name_c, a_is_an_a, a_and_c_are_as, p_from_a_to_b, p_from_a_to_a, a_has_a_p, a_p_has_an_s, a_p_has_a_p, p_is_a_turned_s, a_filler_in_c_and_d, c_and_d_are_disjoint, p_is_asymmetric, p_is_irreflexive, an_a_is_a_d, a_is_disjoint_from_itself, b_is_an_a, s_from_a_to_b, s_from_a_to_c, s_from_b_to_a, no_p_beside_an_s, a_p_is_no_a, an_a_is_no_p, p_is_no_turned_s, has_a_p, is_p, share_a_p, has_a_p_with_an_s, some_loop, seven_in_a_row, is_s, unsafe_head, has_neighbours, some_p, with_a_p};
 ghost use Rattle.dl_terms.specs.declared.role.Basic.TheVariants.{Class, SomeOf};
 ghost use Rattle.dl_terms.specs.declared.role.Negative.TheVariants.{Basics, Roles, NoLoop};
 ghost use Rattle.dl_terms.specs.declared.axiom.Part.TheVariants as part;
@@ -73,6 +73,27 @@ pub fn broken_examples()
     ensures nothing_is_no_name { (axioms : List Axiom) (facts : List Fact) →
         ¬ IsFirstBroken axioms facts None None }
 
+    // What has a P has no S: the two neighbours may be two.
+    ensures two_neighbours { IsFirstBroken (no_p_beside_an_s ∷ [])
+        (p_from_a_to_b ∷ s_from_a_to_c ∷ []) None (Some no_p_beside_an_s) }
+
+    // What has an incoming P is no A, with either operand first: the A is b, to which P leads from a.
+    ensures some_first { IsFirstBroken (a_p_is_no_a ∷ [])
+        (p_from_a_to_b ∷ b_is_an_a ∷ []) None (Some a_p_is_no_a) }
+    ensures some_second { IsFirstBroken (an_a_is_no_p ∷ [])
+        (p_from_a_to_b ∷ b_is_an_a ∷ []) None (Some an_a_is_no_p) }
+    ensures some_at_the_other_end { NothingIsBroken (a_p_is_no_a ∷ []) (p_from_a_to_b ∷ a_is_an_a ∷ []) None }
+
+    // P is disjoint from the inverse of S: P(a, b) with S(b, a), and not with S(a, b).
+    ensures turned_roles { IsFirstBroken (p_is_no_turned_s ∷ [])
+        (p_from_a_to_b ∷ s_from_b_to_a ∷ []) None (Some p_is_no_turned_s) }
+    ensures roles_of_one_direction { NothingIsBroken (p_is_no_turned_s ∷ []) (p_from_a_to_b ∷ s_from_a_to_b ∷ []) None }
+
+    // P is irreflexive: P(a, a) breaks that, and P(a, b) doesn't.
+    ensures a_loop { IsFirstBroken (p_is_irreflexive ∷ []) (p_from_a_to_a ∷ []) None
+        (Some p_is_irreflexive) }
+    ensures two_ends { NothingIsBroken (p_is_irreflexive ∷ []) (p_from_a_to_b ∷ []) None }
+
     // A is disjoint from itself: operands are read by position.
     ensures by_position { IsFirstBroken (a_is_disjoint_from_itself ∷ []) (a_is_an_a ∷ []) None
         (Some a_is_disjoint_from_itself) }
@@ -96,6 +117,12 @@ pub fn query_examples()
     ensures eight_existential { IsWellFormed (has_neighbours 8) }
     ensures nine_existential { ¬ IsWellFormed (has_neighbours 9) }
     ensures unsafe_head { ¬ IsWellFormed unsafe_head }
+
+    ensures no_atom { ¬ IsWellFormed (some_p 0) }
+    ensures sixteen_atoms { IsWellFormed (some_p 16) }
+    ensures seventeen_atoms { ¬ IsWellFormed (some_p 17) }
+    ensures sixteen_places { IsWellFormed (with_a_p 16) }
+    ensures seventeen_places { ¬ IsWellFormed (with_a_p 17) }
 {}
 
 /// The rows of the normal form of an axiom of each kind, in order within the axiom.
