@@ -1,19 +1,19 @@
 -- Axioms that have no inclusions: each role and each concept is below itself alone.
-use Rattle.std.proofs.Common.{◌≡◌, ℕ, ◌⊎◌, Bool, true, false, List, [], refl, sym, ap, subst, ◌∙◌, inl, inr, true≢false}
+use Rattle.std.proofs.Common.{◌≡◌, ℕ, ◌⊎◌, List, [], refl, ap, subst, ◌∙◌, inl, inr, true≢false}
 use Rattle.std.specs.List.{Contains}
 use Rattle.dl_terms.specs.Roles.{inverse_of, named}
 use Rattle.dl_terms.specs.Chain.{empty, step}
 use Rattle.dl_terms.specs.Below.{RoleStep, RoleBelow, ConceptStep, ConceptBelow}
 use Rattle.dl_terms.specs.NormalForm.{role_inclusions, concept_inclusions}
-use Rattle.dl_terms.specs.Structure.{HoldsAtName, by_class, by_source, by_target, Element, child, Joins, by_fact, by_fact_turned, to_child, from_child}
+use Rattle.dl_terms.specs.Structure.{Element, child, Joins, by_fact, by_fact_turned, to_child, from_child}
 use Rattle.dl_terms.specs.declared.role.Base.{Base}
 use Rattle.dl_terms.specs.declared.role.Base.TheVariants.{Named, Filler}
 use Rattle.dl_terms.specs.declared.role.Role.{Role}
 use Rattle.dl_terms.specs.declared.role.Basic.{Basic}
-use Rattle.dl_terms.specs.declared.role.Basic.TheVariants.{Class, SomeOf}
+use Rattle.dl_terms.specs.declared.role.Basic.TheVariants.{SomeOf}
 use Rattle.dl_terms.specs.declared.axiom.Axiom.{Axiom}
 use Rattle.dl_terms.specs.declared.axiom.Fact.{Fact}
-use Rattle.dl_terms.specs.declared.axiom.Fact.TheVariants.{Is, Link}
+use Rattle.dl_terms.specs.declared.axiom.Fact.TheVariants.{Link}
 use Rattle.dl_terms.proofs.MemberLemmas.{Contains-nil}
 
 -- no inverse of a named role is a named role
