@@ -173,8 +173,8 @@ some_loop = record { head = []; atoms = link property_p 0 0 ∷ []; vars = 1 }
 abbrev pub seven_in_a_row : Query
 seven_in_a_row = record {
   head = [];
-  atoms = link property_p 0 1 ∷ link property_p 1 2 ∷ link property_p 2 3 ∷ link property_p 3 4 ∷ link property_p 4 5 ∷ link property_p 5 6
-      ∷ link property_p 6 7 ∷ [];
+  atoms = link property_p 0 1 ∷ link property_p 1 2 ∷ link property_p 2 3 ∷ link property_p 3 4 ∷ link property_p 4 5
+      ∷ link property_p 5 6 ∷ link property_p 6 7 ∷ [];
   vars = 8;
 }
 

@@ -4,8 +4,8 @@ ghost use Rattle.std.specs.Str.{bytes_eq};
 ghost use Rattle.dl_lex.specs.Keywords.{keyword_text, NoKeyword};
 
 /// A keyword of this project's profile of the OWL 2 functional-style syntax: those of its grammar, those of constructs
-/// that it refuses by name, and those of data ranges, for which it has no rule yet (`DataIntersectionOf`, `DataUnionOf`,
-/// `DataComplementOf`, `DataOneOf` and `DatatypeRestriction`).
+/// that it refuses by name, and those of data ranges, for which it has no rule yet (`DataIntersectionOf`,
+/// `DataUnionOf`, `DataComplementOf`, `DataOneOf` and `DatatypeRestriction`).
 #[derive(Clone, Copy, PartialEq, Eq)]
 pub enum Keyword {
     SubClassOf,

@@ -29,8 +29,8 @@ pub enum TokenKind {
     End,
 }
 
-/// A token and its offset: `start` is its first byte, counted from 0, and `end` the offset after its last byte. The whole
-/// token stands between them, with the `<` and `>` of an IRI, the quotes of a string and the `@` of a tag.
+/// A token and its offset: `start` is its first byte, counted from 0, and `end` the offset after its last byte. The
+/// whole token stands between them, with the `<` and `>` of an IRI, the quotes of a string and the `@` of a tag.
 #[derive(Clone, Copy, PartialEq, Eq)]
 pub struct Token {
     pub kind: TokenKind,

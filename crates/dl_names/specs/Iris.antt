@@ -1,4 +1,5 @@
--- The IRIs of names: an IRIREF of RDF 1.1 N-Triples without escapes. That some names are reserved is this project's own.
+-- The IRIs of names: an IRIREF of RDF 1.1 N-Triples without escapes. That some names are reserved is this project's
+-- own.
 use Rattle.std.specs.Prelude.{ℕ, Bool, not, ◌&&◌, nat_lt, ◌==◌, List, [], ◌∷◌, codes, IsTrue, IsUtf8, nat_eq}
 use Rattle.std.specs.List.{list_any, list_all, starts_with}
 

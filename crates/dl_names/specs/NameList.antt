@@ -1,4 +1,4 @@
--- Lists of names: texts in the order in which they were first named.
+-- Lists of names: texts in the order in which they were first named. Places and their limit are this project's own.
 use Rattle.std.specs.Prelude.{ℕ, ◌≡◌, ◌≢◌, Bool, List, [], ◌∷◌, ◌++◌, if◌then◌else◌, AllPairs}
 use Rattle.std.specs.List.{list_any, position_or_len}
 use Rattle.std.specs.Str.{bytes_eq}

@@ -95,8 +95,8 @@ impl Ranks {
         Ranks { ranks }
     }
 
-    /// The rank of the text that `NameSet::add` gave this place, which is its number among the names. The place is one that `add` gave.
-    /// It takes no memory.
+    /// The rank of the text that `NameSet::add` gave this place, which is its number among the names. The place is
+    /// one that `add` gave. It takes no memory.
     pub fn of(&self, place: u32) -> u32
         requires { place < length self.now }
         ensures { result ≡ slice_index self.now place }
@@ -104,8 +104,8 @@ impl Ranks {
         self.ranks[place as usize]
     }
 
-    /// Replaces each place that a fact names by its rank: facts over places become facts over numbers. The places are ones that
-    /// `NameSet::add` gave. It takes no memory.
+    /// Replaces each place that a fact names by its rank: facts over places become facts over numbers. The places
+    /// are ones that `NameSet::add` gave. It takes no memory.
     pub fn rank_facts(&self, facts: &mut [Fact])
         requires { All (λ fact. All (λ place. place < length self.now) (fact_names fact)) facts.old }
         ensures { facts.new ≡ map (renamed_fact (slice_index self.now)) facts.old }

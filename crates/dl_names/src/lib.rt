@@ -1,4 +1,5 @@
-// The names of a run: each text has a place by first occurrence, and, once all are known, a number by its rank in byte order.
+// The names of a run: each text has a place by first occurrence, and, once all are known, a number by its rank in
+// byte order.
 #![tactic(auto)]
 
 mod arrange;

@@ -40,9 +40,9 @@ impl NameSet {
         }
     }
 
-    /// The place of the text: how many names were met before it. A text that isn't among the names becomes the last one.
-    /// `Full` exactly where `MAX_NAMES` names are there and the text is none of them. `NoMemory` comes only for a new text.
-    /// After an error the names are as before.
+    /// The place of the text: how many names were met before it. A text that isn't among the names becomes the last
+    /// one. `Full` exactly where `MAX_NAMES` names are there and the text is none of them. `NoMemory` comes only
+    /// for a new text. After an error the names are as before.
     pub fn add(&mut self, text: &str) -> Result<u32, NameFault>
         ensures named { OnOk result (self.new ≡ names_after self.old text.now) }
         ensures place { IfOk result (λ place.

@@ -87,8 +87,8 @@ impl Graph {
         Ok(Closure::of(alloc, graph)?)
     }
 
-    /// Pairs of nodes along which the closure unites its rows, such that one pass makes each row whole. Nothing rests on that but its
-    /// speed, so no clause says it. Fails only for want of memory.
+    /// Pairs of nodes along which the closure unites its rows, such that one pass makes each row whole. Nothing
+    /// rests on that but its speed, so no clause says it. Fails only for want of memory.
     pub fn order(&self, alloc: Global) -> Result<Vec<(u32, u32)>, NoMemory>
         ensures { IfOk result (λ pairs. EndsBelow self.now.nodes pairs.items) }
     {

@@ -44,9 +44,13 @@ neighbours (SomeOf r) = 1
 
 -- the query of a negative, without head: what no model has. Each "some r" has a neighbour of its own
 abbrev pub query_of : Negative → Query
-query_of (Basics b c) =
-    record { head = []; atoms = basic_atom b 1 ∷ basic_atom c (1 + neighbours b) ∷ []; vars = 1 + neighbours b + neighbours c }
-query_of (Roles r s) = record { head = []; atoms = role_atom r (Var 0) (Var 1) ∷ role_atom s (Var 0) (Var 1) ∷ []; vars = 2 }
+query_of (Basics b c) = record {
+  head = [];
+  atoms = basic_atom b 1 ∷ basic_atom c (1 + neighbours b) ∷ [];
+  vars = 1 + neighbours b + neighbours c;
+}
+query_of (Roles r s) =
+    record { head = []; atoms = role_atom r (Var 0) (Var 1) ∷ role_atom s (Var 0) (Var 1) ∷ []; vars = 2 }
 query_of (NoLoop r) = record { head = []; atoms = role_atom r (Var 0) (Var 0) ∷ []; vars = 1 }
 
 -- something in the canonical structure is what a negative excludes
@@ -58,7 +62,8 @@ abbrev pub NothingIsBroken : List Axiom → List Fact → Option ℕ → Type 0
 NothingIsBroken axioms facts nothing = All (λ n. ¬ IsMet axioms facts n.1) (negatives axioms nothing)
 
 -- the first broken axiom, that of the first negative that is met; None stands for owl:Nothing
-pub record IsFirstBroken (axioms : List Axiom) (facts : List Fact) (nothing : Option ℕ) (broken : Option Axiom) : Type 0 where
+pub record IsFirstBroken (axioms : List Axiom) (facts : List Fact) (nothing : Option ℕ) (broken : Option Axiom)
+    : Type 0 where
   pub before : List (Option Axiom × Negative)
   pub negative : Negative
   pub after : List (Option Axiom × Negative)

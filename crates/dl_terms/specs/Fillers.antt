@@ -1,4 +1,4 @@
--- Axioms without fillers, and rows: a filler stands in the normal form alone.
+-- Axioms without fillers, and rows: a filler stands in the normal form alone. Fillers are this project's own.
 use Rattle.std.specs.Prelude.{ℕ}
 use Rattle.std.specs.List.{All, Contains}
 use Rattle.dl_terms.specs.NormalForm.{Row, role_in, concept_in, never, part_rows}

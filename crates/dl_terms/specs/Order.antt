@@ -1,5 +1,5 @@
--- The order of axioms: by kind, as the kinds are listed, and then operand by operand from left to right; and that of facts.
--- It is this project's own. Numbers compare as names do by their bytes, since a number is a rank.
+-- The order of axioms: by kind, as the kinds are listed, and then operand by operand from left to right; and that of
+-- facts. It is this project's own. Numbers compare as names do by their bytes, since a number is a rank.
 use Rattle.std.specs.Prelude.{ℕ, Bool, true, false}
 use Rattle.std.specs.declared.cmp.Ordering.{Ordering}
 use Rattle.std.specs.Ordering.{nat_cmp, ordering_then}
@@ -25,7 +25,8 @@ abbrev pub base_cmp : Base → Base → Ordering
 base_cmp (Named p) (Named q) = nat_cmp p q
 base_cmp (Named p) (Filler q j d) = nat_cmp 0 1
 base_cmp (Filler p i c) (Named q) = nat_cmp 1 0
-base_cmp (Filler p i c) (Filler q j d) = ordering_then (nat_cmp p q) (ordering_then (nat_cmp (flag i) (flag j)) (nat_cmp c d))
+base_cmp (Filler p i c) (Filler q j d) =
+    ordering_then (nat_cmp p q) (ordering_then (nat_cmp (flag i) (flag j)) (nat_cmp c d))
 
 abbrev pub role_cmp : Role → Role → Ordering
 role_cmp r s = ordering_then (base_cmp r.base s.base) (nat_cmp (flag r.inverse) (flag s.inverse))

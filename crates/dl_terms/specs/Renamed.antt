@@ -1,4 +1,5 @@
--- Terms whose names are given other numbers, as places in a list of names are given ranks.
+-- Terms whose names are given other numbers, as places in a list of names are given ranks: a renaming, which keeps the
+-- form of the term. That names are numbers is this project's own.
 use Rattle.std.specs.Prelude.{ℕ, map}
 use Rattle.dl_terms.specs.declared.role.Base.{Base}
 use Rattle.dl_terms.specs.declared.role.Base.TheVariants.{Named, Filler}

@@ -1,4 +1,4 @@
--- Sets of axioms, facts and names, as lists that ascend strictly.
+-- Sets of axioms, facts and names, as lists that ascend strictly. That is this project's own.
 use Rattle.std.specs.Prelude.{List, ◌↔◌}
 use Rattle.std.specs.declared.cmp.Ordering.{Ordering}
 use Rattle.std.specs.List.{Contains}

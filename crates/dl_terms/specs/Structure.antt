@@ -14,7 +14,8 @@ use Rattle.dl_terms.specs.declared.axiom.Fact.TheVariants.{Is, Link}
 -- a basic concept holds at a name: by a class fact, or by what a role fact has at either end
 pub data HoldsAtName (axioms : List Axiom) (facts : List Fact) (b : Basic) (a : ℕ) : Type 0 where
   by_class : {c : ℕ} → Contains facts (Is c a) → ConceptBelow axioms (Class c) b → HoldsAtName axioms facts b a
-  by_source : {p o : ℕ} → Contains facts (Link p a o) → ConceptBelow axioms (SomeOf (named p)) b → HoldsAtName axioms facts b a
+  by_source : {p o : ℕ} → Contains facts (Link p a o) → ConceptBelow axioms (SomeOf (named p)) b
+      → HoldsAtName axioms facts b a
   by_target : {p o : ℕ} → Contains facts (Link p o a) → ConceptBelow axioms (SomeOf (inverse_of (named p))) b
       → HoldsAtName axioms facts b a
 
@@ -47,7 +48,8 @@ IsElement axioms facts x = IsWordAt axioms facts x.name x.word
 -- a basic concept holds at an element: at its name, or by the last role of its word
 pub data HoldsAt (axioms : List Axiom) (facts : List Fact) (b : Basic) (x : Element) : Type 0 where
   at_name : x.word ≡ [] → HoldsAtName axioms facts b x.name → HoldsAt axioms facts b x
-  at_end : (y : Element) (r : Role) → x ≡ child y r → ConceptBelow axioms (SomeOf (inverse_of r)) b → HoldsAt axioms facts b x
+  at_end : (y : Element) (r : Role) → x ≡ child y r → ConceptBelow axioms (SomeOf (inverse_of r)) b
+      → HoldsAt axioms facts b x
 
 -- a role joins two elements: two names by a fact, or an element and its child, in either direction
 pub data Joins (axioms : List Axiom) (facts : List Fact) (s : Role) (x y : Element) : Type 0 where

@@ -1,4 +1,4 @@
--- Tuples of one width, as contracts see them.
+-- Tuples of one width, as contracts see them: a table of this project's own.
 use Rattle.std.specs.Prelude.{ℕ, zero, suc, List, [], ◌∷◌, refl, take, drop}
 use Rattle.std.specs.Coded.{Coded, code_by, coded×, coded_ℕ, coded_list}
 

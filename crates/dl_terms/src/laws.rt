@@ -1,4 +1,5 @@
-//! Laws of the definitions: of fillers and names, of what is below what, of the canonical structure, and of what is determined.
+//! Laws of the definitions: of fillers and names, of what is below what, of the canonical structure, and of what is
+//! determined.
 ghost use Rattle.std.specs.Prelude.{◌≡◌, ℕ, ◌↔◌, ◌⊎◌, List, map};
 ghost use Rattle.std.specs.List.{Contains};
 ghost use Rattle.std.specs.declared.option.Option.{Option};
@@ -39,7 +40,8 @@ pub fn some_of_is_a_neighbour()
         ↔ ((y : Element) × IsElement axioms facts y × Joins axioms facts r x y) }
 {}
 
-/// A query has at most one list of certain answers and one defined reply, and at most one axiom is the first broken one.
+/// A query has at most one list of certain answers and one defined reply, and at most one axiom is the first broken
+/// one.
 pub fn answers_are_determined()
     ensures certain { (axioms : List Axiom) (facts : List Fact) (q : Query) (xs ys : List (List ℕ))
         → AreCertain axioms facts q xs → AreCertain axioms facts q ys → xs ≡ ys }
@@ -51,8 +53,9 @@ pub fn answers_are_determined()
         → IsReply axioms facts nothing q limit b → a ≡ b }
 {}
 
-/// Fillers come into the normal form for "some r in C" alone: each row of an axiom without fillers has none, or is one of the rows that
-/// say that. There is one filler for each role that is none and each class, and other names change nothing of all that.
+/// Fillers come into the normal form for "some r in C" alone: each row of an axiom without fillers has none, or is
+/// one of the rows that say that. There is one filler for each role that is none and each class, and other names
+/// change nothing of all that.
 pub fn fillers_stand_for_some_in()
     ensures rows { (a : Axiom) (row : Row) → HasNoFiller a
         → Contains (axiom_rows a) row → RowHasNoFiller row ⊎ IsFilled row }

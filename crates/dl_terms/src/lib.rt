@@ -1,4 +1,5 @@
-// The terms of DL-Lite_R: roles, concepts, axioms, facts, queries and their parts, and the definitions that contracts cite.
+// The terms of DL-Lite_R: roles, concepts, axioms, facts, queries and their parts, and the definitions that
+// contracts cite.
 #![tactic(auto)]
 
 mod axiom;

@@ -14,8 +14,8 @@ pub enum Atom {
     Link { role: u32, from: Term, to: Term },
 }
 
-/// A conjunctive query. Its variables are the numbers below `vars`; those of the atoms that are not in the head are existential
-/// (Calvanese, De Giacomo, Lembo, Lenzerini, Rosati 2007).
+/// A conjunctive query. Its variables are the numbers below `vars`; those of the atoms that are not in the head are
+/// existential (Calvanese, De Giacomo, Lembo, Lenzerini, Rosati 2007).
 #[derive(Drop, PartialEq, Eq)]
 pub struct Query {
     pub head: List<u8>,

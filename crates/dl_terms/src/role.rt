@@ -1,7 +1,7 @@
 use crate::List;
 
-/// A role name: one of the input, or the filler of a role and a class: a role below that role, which leads to members of that class
-/// alone. Fillers are this project's own.
+/// A role name: one of the input, or the filler of a role and a class: a role below that role, which leads to
+/// members of that class alone. Fillers are this project's own.
 #[derive(Clone, Copy, PartialEq, Eq, PartialOrd, Ord)]
 pub enum Base {
     /// An object property, by its number.
@@ -36,8 +36,8 @@ pub enum Negative {
     NoLoop(Role),
 }
 
-/// The normal form of a list of axioms: inclusions of roles, inclusions of basic concepts, and negatives. Each negative is beside the
-/// index of its axiom in the list, from 0.
+/// The normal form of a list of axioms: inclusions of roles, inclusions of basic concepts, and negatives. Each
+/// negative is beside the index of its axiom in the list, from 0.
 #[derive(Drop, PartialEq, Eq)]
 pub struct Normal {
     pub roles: List<(Role, Role)>,

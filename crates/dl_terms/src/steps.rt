@@ -22,8 +22,8 @@ impl<L: Ledger> Model for Steps<L> {
 }
 
 impl<L: Ledger> Steps<L> {
-    /// A count at 0, over a ledger that nothing has counted in yet: the blank is that of the ledger, with all of its parts, of which
-    /// there is one at least. It takes no memory.
+    /// A count at 0, over a ledger that nothing has counted in yet: the blank is that of the ledger, with all of
+    /// its parts, of which there is one at least. It takes no memory.
     pub fn new(blank: Blank) -> Steps<L>
         requires name { blank.name ≡ L.name }
         requires parts { blank.parts ≡ L.parts }

@@ -1,4 +1,5 @@
-// Tests of the libraries: outside examples, and each public call once with ample memory. A loop over rows is a function that gives a bool.
+// Tests of the libraries: outside examples, and each public call once with ample memory. A loop over rows is a
+// function that gives a bool.
 #![tactic(auto)]
 
 #[cfg(test)]

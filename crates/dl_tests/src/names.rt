@@ -149,7 +149,8 @@ fn are_added_again(set: &mut NameSet, rows: &[(&str, u32)]) -> bool {
     true
 }
 
-// With a growth refused, as by `rt try --test --fail-alloc N`, the names are as before, so that a second try gives the same place.
+// With a growth refused, as by `rt try --test --fail-alloc N`, the names are as before, so that a second try gives
+// the same place.
 #[test]
 fn a_second_try_after_a_refusal(rt: HostRuntime) {
     let mut set = NameSet::new(rt.alloc());
