@@ -2,6 +2,7 @@ use dl_intervals::{Intervals, NoMemory, ascends};
 use std::alloc::Global;
 use std::test::Fail;
 
+/// The greatest number that may be held.
 const TOP: u32 = (1 << 31) - 1;
 
 /// Two lists of numbers, and the intervals of the numbers of both.

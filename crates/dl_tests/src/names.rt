@@ -28,6 +28,7 @@ const IN_ORDER: &[&str] = &[
     "é",
 ];
 
+/// Texts that are none of them.
 const MISSING: &[&str] = &["A", "a-", "aba", "c", "ê"];
 
 /// The rank of each place.
@@ -93,6 +94,7 @@ fn places_by_first_occurrence_and_ranks_by_bytes(rt: HostRuntime) -> Result<(), 
     Ok(())
 }
 
+/// Three texts whose order by bytes is another.
 const FEW: &[(&str, u32)] = &[("b", 0), ("c", 1), ("a", 2)];
 
 /// Whether facts over the three places become these facts over numbers.
@@ -127,6 +129,7 @@ fn facts_get_their_numbers(rt: HostRuntime) -> Result<(), Fail> {
     Ok(())
 }
 
+/// Texts of which some come twice.
 const TWICE: &[(&str, u32)] = &[
     ("b", 0),
     ("a", 1),
@@ -149,8 +152,8 @@ fn are_added_again(set: &mut NameSet, rows: &[(&str, u32)]) -> bool {
     true
 }
 
-// With a growth refused, as by `rt try --test --fail-alloc N`, the names are as before, so that a second try gives
-// the same place.
+/// With a growth refused, as by `rt try --test --fail-alloc N`, the names are as before, so that a second try gives
+/// the same place.
 #[test]
 fn a_second_try_after_a_refusal(rt: HostRuntime) {
     let mut set = NameSet::new(rt.alloc());
@@ -169,6 +172,7 @@ const IRIS: &[(&[u8], bool)] = &[
     (b"", false),
 ];
 
+/// Whether each row's IRI is told reserved or not.
 fn are_told_reserved(rows: &[(&[u8], bool)]) -> bool {
     for row in rows {
         if is_reserved(row.0) != row.1 {

@@ -224,7 +224,7 @@ fn one_pass_is_enough_in_all(
     Ok(true)
 }
 
-// What no clause says of the order: one pass along it makes each row whole.
+/// What no clause says of the order: one pass along it makes each row whole.
 #[test]
 fn one_pass_is_enough(rt: HostRuntime) -> Result<(), Fail> {
     assert!(rt; one_pass_is_enough_in_all(rt.alloc(), RINGS)?);

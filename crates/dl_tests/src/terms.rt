@@ -39,6 +39,7 @@ const INCLUSIONS: [(Basic, Option<Part>); 7] = [
     (Basic::SomeOf(FILLER), Some(Part::Thing)),
 ];
 
+/// `SubClassOf` of a concept and a part, or of no part at all.
 fn below(alloc: Global, sub: Basic, part: Option<Part>) -> Result<Axiom, NoMemory> {
     let mut sup = List::new(alloc);
     if let Some(part) = part {
@@ -47,12 +48,14 @@ fn below(alloc: Global, sub: Basic, part: Option<Part>) -> Result<Axiom, NoMemor
     Ok(Axiom::SubClass { sub, sup })
 }
 
+/// `DisjointClasses` of one class.
 fn disjoint(alloc: Global, class: u32) -> Result<Axiom, NoMemory> {
     let mut classes = List::new(alloc);
     classes.push(Basic::Class(class))?;
     Ok(Axiom::DisjointClasses(classes))
 }
 
+/// Adds the axiom of each row.
 fn push_inclusions(
     alloc: Global,
     axioms: &mut List<Axiom>,
