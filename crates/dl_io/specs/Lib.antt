@@ -1,6 +1,8 @@
 pub mod Count
+pub mod Shared
 pub mod Reading
 pub mod Writing
+pub mod Gathering
 pub mod Files
 pub mod Buffer
 pub mod Schedule

@@ -1,22 +1,16 @@
--- Which calls are to fail, and what was counted so far.
-use Rattle.std.specs.Prelude.{ℕ, List, Contains, Bool, if◌then◌else◌}
+-- Which calls are to fail.
+use Rattle.std.specs.Prelude.{ℕ, List, Contains}
 use Rattle.dl_io.specs.Count.{raised_count}
 
--- the numbers of the calls that are to fail, counted from 0; how many calls there were, and how many faults
+-- the numbers of the calls that are to fail, counted from 0, and how many calls there were
 pub record Schedule : Type 0 where
   pub fails : List ℕ
   pub calls : ℕ
-  pub faults : ℕ
 
 -- the next call is one of those that are to fail
 abbrev pub FailsNext : Schedule → Type 0
 FailsNext schedule = Contains schedule.fails schedule.calls
 
--- after one more call, which failed or didn't
-abbrev pub after_call : Bool → Schedule → Schedule
-after_call failed schedule =
-    record {
-      fails = schedule.fails;
-      calls = raised_count schedule.calls;
-      faults = if failed then raised_count schedule.faults else schedule.faults;
-    }
+-- after one more call
+abbrev pub after_call : Schedule → Schedule
+after_call schedule = record { fails = schedule.fails; calls = raised_count schedule.calls }

@@ -1,5 +1,5 @@
 ghost use Rattle.std.specs.Prelude.{ℕ, ◌≡◌, ◌<◌, ◌≤◌, List, [], length, take, IfOk, OnErr, IfSome, Option};
-ghost use Rattle.dl_io.specs.Count.{HasRisen};
+ghost use Rattle.dl_io.specs.Count.{HasRisen, NoneFalls};
 ghost use Rattle.dl_io.specs.Reading.{Copies, EndsAt};
 ghost use Rattle.dl_io.specs.Writing.{Gets};
 
@@ -14,12 +14,13 @@ pub struct Failed;
 pub trait Library {
     // The bytes of each name, where the library tells them.
     ghost told: { Self → Option (List ℕ → List ℕ) };
-    // How many faults there were so far. The count never falls.
-    ghost faults: { Self → ℕ };
+    // How many faults of each name there were so far. No count falls.
+    ghost faults: { Self → List ℕ → ℕ };
 
-    /// Copies bytes of a file, from a place on, to the front of `buf`, and answers how many. For a
+    /// Copies bytes of a file, from an offset on, to the front of `buf`, and answers how many. For a
     /// buffer that isn't empty the answer is 0 at the end of the file and nowhere else. `Failed`
-    /// comes only where the count of faults rose; a name that can't be opened is such a fault.
+    /// comes only where the count of faults of this very name rose, or stands at its last value; a
+    /// name that can't be opened is such a fault.
     fn read(&mut self, name: &str, from: u64, buf: &mut [u8]) -> Result<usize, Failed>
         ensures fits { IfOk result (λ n. n ≤ length buf.new) }
         ensures copied { IfOk result (λ n.
@@ -27,8 +28,9 @@ pub trait Library {
         ensures end { IfOk result (λ n.
             IfSome (told self.old) (λ file_of. EndsAt (file_of name.now) from n buf.new)) }
         ensures unchanged { told self.new ≡ told self.old }
-        ensures count { faults self.old ≤ faults self.new }
-        ensures failed { OnErr result (HasRisen (faults self.old) (faults self.new)) };
+        ensures count { NoneFalls (faults self.old) (faults self.new) }
+        ensures failed { OnErr result
+            (HasRisen (faults self.old name.now) (faults self.new name.now)) };
 }
 
 /// What takes bytes.
@@ -39,8 +41,8 @@ pub trait Sink {
     ghost faults: { Self → ℕ };
 
     /// Takes the first bytes of a piece, and answers how many: at least one where the piece isn't
-    /// empty. `Failed` comes only where the count of faults rose. A sink that failed got nothing of
-    /// the piece.
+    /// empty. `Failed` comes only where the count of faults rose, or stands at its last value. A
+    /// sink that failed got nothing of the piece.
     fn write(&mut self, piece: &[u8]) -> Result<usize, Failed>
         ensures fits { IfOk result (λ n. n ≤ length piece.now) }
         ensures some { IfOk result (λ n. 0 < length piece.now → 0 < n) }

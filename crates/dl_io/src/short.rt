@@ -34,7 +34,7 @@ impl ShortLibrary {
 impl Library for ShortLibrary {
     ghost told = { λ files. Some (bytes_of files) };
 
-    ghost faults = { λ _. 0 };
+    ghost faults = { λ _ _. 0 };
 
     fn read(&mut self, name: &str, from: u64, buf: &mut [u8]) -> Result<usize, Failed>
         ensures ok { result ≡

@@ -1,5 +1,5 @@
 ghost use Rattle.std.specs.Prelude.{◌≡◌, ◌+◌, ◌<◌, ◌≤◌, ◌↔◌, length, take, drop, vec_len, IfOk, IfSome, IsErrOf};
-ghost use Rattle.dl_io.specs.Count.{HasRisen};
+ghost use Rattle.dl_io.specs.Count.{HasRisen, NoneFalls};
 ghost use Rattle.dl_io.specs.Files.{max_bytes};
 ghost use Rattle.dl_io.specs.Reading.{Copies};
 ghost use Rattle.dl_io.specs.declared.whole.FileFault.TheVariants.{Failed, NoMemory};
@@ -44,9 +44,10 @@ impl From<AllocError> for FileFault {
     }
 }
 
-/// Reads a file whole, in pieces of 64 KiB into one buffer that grows, each behind what was read. `Failed` comes only where the
-/// library's count of faults rose, and `TooLong` only where the file has more than `MAX_BYTES` bytes. After each answer the library
-/// tells what it told before.
+/// Reads a file whole, in pieces of 64 KiB into one buffer that grows, each behind what was read.
+/// `Failed` comes only where the count of faults of this very name rose, or stands at its last value,
+/// and `TooLong` only where the file has more than `MAX_BYTES` bytes, as far as the library tells
+/// them. After each answer the library tells what it told before.
 pub fn read_whole<L: Library>(
     alloc: Global,
     files: &mut L,
@@ -58,9 +59,9 @@ pub fn read_whole<L: Library>(
     ensures too_long { IsErrOf result FileFault.TooLong →
         IfSome (L.told files.old) (λ file_of. max_bytes < length (file_of name.now)) }
     ensures failed { IsErrOf result FileFault.Failed →
-        HasRisen (L.faults files.old) (L.faults files.new) }
+        HasRisen (L.faults files.old name.now) (L.faults files.new name.now) }
     ensures unchanged { L.told files.new ≡ L.told files.old }
-    ensures count { L.faults files.old ≤ L.faults files.new }
+    ensures count { NoneFalls (L.faults files.old) (L.faults files.new) }
 {
     let mut buffer = Vec::new(alloc);
     let mut len = 0usize;
@@ -93,9 +94,9 @@ fn read_piece<L: Library>(
         IfSome (L.told files.old) (λ file_of. (n ≡ 0) ↔ (length (file_of name.now) ≤ len))) }
     ensures not_too_long { IsErrOf result FileFault.TooLong → ⊥ }
     ensures failed { IsErrOf result FileFault.Failed →
-        HasRisen (L.faults files.old) (L.faults files.new) }
+        HasRisen (L.faults files.old name.now) (L.faults files.new name.now) }
     ensures unchanged { L.told files.new ≡ L.told files.old }
-    ensures count { L.faults files.old ≤ L.faults files.new }
+    ensures count { NoneFalls (L.faults files.old) (L.faults files.new) }
 {
     buffer.resize(len + PIECE, 0)?;
     let n = files.read(name, len as u64, &mut buffer.as_mut_slice()[len..])?;

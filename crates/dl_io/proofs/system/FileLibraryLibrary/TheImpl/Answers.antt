@@ -1,5 +1,5 @@
 use Rattle.std.proofs.Common.{refl}
-use Rattle.dl_io.proofs.Answered.{IfOk-each, HasRisen-counted}
+use Rattle.dl_io.proofs.Answered.{IfOk-each}
 use Rattle.dl_io.proofs.system.FileLibraryLibrary.TheImpl.Goals as goal
 
 -- It tells nothing, so no clause on what it tells has anything to say.
@@ -11,5 +11,5 @@ read-tells g c =
       end = IfOk-each c.result _ (λ _. tt);
       unchanged = refl;
       count = c.ensures.count;
-      failed = HasRisen-counted c.result c.args.self.now c.new.self.now c.ensures.counted;
+      failed = c.ensures.failed;
     }

@@ -1,7 +1,7 @@
 -- The sink got the bytes up to the place, and its count of faults didn't fall.
 use Rattle.std.proofs.Common.{length, ◌-◌, ◌≤◌, take}
 use Rattle.dl_io.specs.Writing.{Gets}
-use Rattle.dl_io.proofs.writing.write_all.Given as goal
+use Rattle.dl_io.proofs.writing.write_some.Given as goal
 
 abbrev pub invariant-loop-at : goal.invariant-loop-at
 invariant-loop-at g l =
