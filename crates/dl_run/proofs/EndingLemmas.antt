@@ -1,87 +1,143 @@
--- What a command says, and what follows from how it was written.
-use Rattle.std.proofs.Common.{◌≡◌, ℕ, ◌⊎◌, inl, inr, List, Option, None, Some, Result, Ok, Err, IfSome, IfOk, string_bytes, sym, ◌∙◌, refl}
-use Rattle.dl_io.specs.Count.{HasRisen}
-use Rattle.dl_run.specs.Defined.{AnswerPrints, AnswerText, IsNoInput}
-use Rattle.dl_run.specs.Defined.AnswerPrints.{not_built, for_input}
-use Rattle.dl_run.specs.Defined.AnswerText.{over_limit, answers}
-use Rattle.dl_run.specs.Input.{Load}
-use Rattle.dl_terms.specs.declared.query.Query.{Query}
-use Rattle.dl_run.specs.Ending.{Says, IsComplete, EndsAs}
-use Rattle.dl_run.specs.Ending.Says.{printed, read_fault, no_memory}
-use Rattle.dl_run.specs.declared.answer.Output.{Output}
+-- How a run ends, from the text that goes with its status and from how that was printed.
+use Rattle.std.proofs.Common.{◌≡◌, ℕ, ◌≤◌, ◌⊎◌, inl, inr, List, Option, None, Some, IfSome, refl}
+use Rattle.dl_io.specs.Count.{HasRisen, NoneFalls}
+use Rattle.dl_run.specs.Ending.{Run, HasReadFault, Says, Printed, Ends}
+use Rattle.dl_run.specs.Ending.Says.{done, usage, refused, read_fault, no_memory}
+use Rattle.dl_run.specs.Ending.Printed.{whole, part}
 use Rattle.dl_run.specs.declared.status.Status.{Status}
-use Rattle.dl_run.specs.declared.status.Status.TheVariants.{Done, Refused, WriteFault}
-use Rattle.dl_run.specs.declared.stop.Stop.{Stop}
-use Rattle.dl_run.specs.declared.stop.Stop.TheVariants as stops
-use Rattle.dl_run.specs.Texts.{not_built_text}
+use Rattle.dl_run.specs.declared.status.Status.TheVariants.{Done, Refused, ReadFault, WriteFault, NoMemory}
+use Rattle.dl_run.specs.Texts.{read_fault_text, no_memory_text}
 
 -- what holds where the library tells its files still holds where it says more
 pub if_some : {A : Type 0} (told : Option A) {P Q : A → Type 0} → ((x : A) → P x → Q x) → IfSome told P → IfSome told Q
 if_some None f h = tt
 if_some (Some x) f h = f x h
 
-pub if_some_both : {A : Type 0} (told : Option A) {P Q R : A → Type 0} → ((x : A) → P x → Q x → R x) → IfSome told P → IfSome told Q → IfSome told R
-if_some_both None f h k = tt
-if_some_both (Some x) f h k = f x h k
+-- what holds of whatever it tells
+pub always : {A : Type 0} (told : Option A) {P : A → Type 0} → ((x : A) → P x) → IfSome told P
+always None f = tt
+always (Some x) f = f x
 
-pub text_kind : {load : Load} {asked : Query} {limit : ℕ} {status : Status} {text : List ℕ} → AnswerText load asked limit status text
-    → (status ≡ Done) ⊎ (status ≡ Refused)
-text_kind (over_limit reply) = inr refl
-text_kind (answers reply) = inl refl
+module _ (Prints : (List ℕ → List ℕ) → Status → List ℕ → Type 0) (told : Option (List ℕ → List ℕ)) (Fault : Type 0) where
+  said_done : {status : Status} {text : List ℕ} → Says Prints told Fault status text → status ≡ Done → IfSome told (λ file_of. Prints file_of Done text)
+  said_done (done p) is = p
+  said_done (usage p) is = cc
+  said_done (refused p) is = cc
+  said_done (read_fault f) is = cc
+  said_done no_memory is = cc
 
--- files that give no input are refused
-pub refused_only : {x y z : List ℕ} {limit : ℕ} {status : Status} {text : List ℕ} → IsNoInput x y z → AnswerPrints x y z limit status text → Refused ≡ status
-refused_only none (not_built _ is what) = sym is
-refused_only none (for_input {load = load} {asked = asked} input _) = absurd (none load asked input)
+  said_refused : {status : Status} {text : List ℕ} → Says Prints told Fault status text → status ≡ Refused → IfSome told (λ file_of. Prints file_of Refused text)
+  said_refused (done p) is = cc
+  said_refused (usage p) is = cc
+  said_refused (refused p) is = p
+  said_refused (read_fault f) is = cc
+  said_refused no_memory is = cc
 
-module _ (told : Option (List ℕ → List ℕ)) (Prints : (List ℕ → List ℕ) → Status → List ℕ → Type 0) (faults faults' : ℕ)
-    (output : Result Output Stop)
-    (prints : IfOk output (λ out. IfSome told (λ file_of. Prints file_of out.status (string_bytes out.text))))
-    (kind : IfOk output (λ out. (out.status ≡ Done) ⊎ (out.status ≡ Refused)))
-    (refused : output ≡ Err stops.NotBuilt → IfSome told (λ file_of. Prints file_of Refused not_built_text))
-    (failed : output ≡ Err stops.ReadFault → HasRisen faults faults') where
-  pub says : (status : Status) (text : List ℕ) → EndsAs output status text → Says told Prints faults faults' status text
-  says = by output refl prints kind
-    where
-      by : (o : Result Output Stop) → output ≡ o → IfOk o (λ out. IfSome told (λ file_of. Prints file_of out.status (string_bytes out.text)))
-          → IfOk o (λ out. (out.status ≡ Done) ⊎ (out.status ≡ Refused)) → (status : Status) (text : List ℕ) → EndsAs o status text
-          → Says told Prints faults faults' status text
-      by (Ok out) is p k status text e = rw (e.0, e.1) (printed k p)
-      by (Err stops.NotBuilt) is p k status text e = rw (e.0, e.1) (printed (inr refl) (refused is))
-      by (Err stops.ReadFault) is p k status text e = rw (e.0, e.1) (read_fault (failed is))
-      by (Err stops.NoMemory) is p k status text e = rw (e.0, e.1) no_memory
+  said_fault : {status : Status} {text : List ℕ} → Says Prints told Fault status text → status ≡ ReadFault → Fault × (text ≡ read_fault_text)
+  said_fault (done p) is = cc
+  said_fault (usage p) is = cc
+  said_fault (refused p) is = cc
+  said_fault (read_fault f) is = (f, refl)
+  said_fault no_memory is = cc
 
--- nothing that is said goes with the status of a failed write
-pub says_no_write_fault : {told : Option (List ℕ → List ℕ)} {Prints : (List ℕ → List ℕ) → Status → List ℕ → Type 0} {faults faults' : ℕ} {status : Status} {text : List ℕ}
-    → Says told Prints faults faults' status text → status ≡ WriteFault → ⊥
-says_no_write_fault (printed (inl e) p) h = cc
-says_no_write_fault (printed (inr e) p) h = cc
-says_no_write_fault (read_fault r) h = cc
-says_no_write_fault no_memory h = cc
+  said_no_memory : {status : Status} {text : List ℕ} → Says Prints told Fault status text → status ≡ NoMemory → text ≡ no_memory_text
+  said_no_memory (done p) is = cc
+  said_no_memory (usage p) is = cc
+  said_no_memory (refused p) is = cc
+  said_no_memory (read_fault f) is = cc
+  said_no_memory no_memory is = refl
 
-module _ (told : Option (List ℕ → List ℕ)) (Prints : (List ℕ → List ℕ) → Status → List ℕ → Type 0) (faults faults' sunk sunk' : ℕ)
-    (status result : Status) (same : (result ≡ status) ⊎ (result ≡ WriteFault)) (unwritten : (result ≡ status → ⊥) → HasRisen sunk sunk')
-    (not_so : status ≡ WriteFault → ⊥) where
-  written_so : (HasRisen sunk sunk' → ⊥) → result ≡ status
-  written_so none = elim same [ inl e ↦ e | inr w ↦ absurd (none (unwritten (λ e. not_so (sym e ∙ w)))) ]
+  said_no_write_fault : {status : Status} {text : List ℕ} → Says Prints told Fault status text → status ≡ WriteFault → ⊥
+  said_no_write_fault (done p) is = cc
+  said_no_write_fault (usage p) is = cc
+  said_no_write_fault (refused p) is = cc
+  said_no_write_fault (read_fault f) is = cc
+  said_no_write_fault no_memory is = cc
 
-  pub complete : (output : Result Output Stop) (text : List ℕ) → EndsAs output status text
-      → IfOk output (λ out. IfSome told (λ file_of. (s : Status) (t : List ℕ) → Prints file_of s t → out.status ≡ s))
-      → (output ≡ Err stops.NotBuilt → IfSome told (λ file_of. (s : Status) (t : List ℕ) → Prints file_of s t → Refused ≡ s))
-      → (output ≡ Err stops.ReadFault → HasRisen faults faults') → IsComplete told Prints faults faults' sunk sunk' result
-  complete (Ok out) text e only refused failed =
-      if_some told (λ file_of h s t p read write. inl (written_so write ∙ e.0 ∙ h s t p)) only
-  complete (Err stops.NotBuilt) text e only refused failed =
-      if_some told (λ file_of h s t p read write. inl (written_so write ∙ e.0 ∙ h s t p)) (refused refl)
-  complete (Err stops.ReadFault) text e only refused failed =
-      always told (λ file_of s t p read write. absurd (read (failed refl)))
-    where
-      always : {A : Type 0} (told : Option A) {P : A → Type 0} → ((x : A) → P x) → IfSome told P
-      always None f = tt
-      always (Some x) f = f x
-  complete (Err stops.NoMemory) text e only refused failed =
-      always told (λ file_of s t p read write. inr (written_so write ∙ e.0))
-    where
-      always : {A : Type 0} (told : Option A) {P : A → Type 0} → ((x : A) → P x) → IfSome told P
-      always None f = tt
-      always (Some x) f = f x
+  -- where the files decide the status, it is the one that is printed
+  said_only : ((file_of : List ℕ → List ℕ) (s o : Status) (t a : List ℕ) → Prints file_of s t → Prints file_of o a → s ≡ o)
+      → {status : Status} {text : List ℕ} → Says Prints told Fault status text
+      → IfSome told (λ file_of. (other : Status) (also : List ℕ) → Prints file_of other also → (Fault → ⊥) → (status ≡ other) ⊎ (status ≡ NoMemory))
+  said_only one (done p) = if_some told (λ file_of p other also q none. inl (one file_of _ _ _ _ p q)) p
+  said_only one (usage p) = if_some told (λ file_of p other also q none. inl (one file_of _ _ _ _ p q)) p
+  said_only one (refused p) = if_some told (λ file_of p other also q none. inl (one file_of _ _ _ _ p q)) p
+  said_only one (read_fault f) = always told (λ file_of other also q none. absurd (none f))
+  said_only one no_memory = always told (λ file_of other also q none. inr refl)
+
+module _ (Prints : (List ℕ → List ℕ) → Status → List ℕ → Type 0) (Asks : List ℕ → Type 0)
+    (one : (file_of : List ℕ → List ℕ) (s o : Status) (t a : List ℕ) → Prints file_of s t → Prints file_of o a → s ≡ o)
+    (told_before told : Option (List ℕ → List ℕ)) (reads_before reads : List ℕ → ℕ) (got_before got : Option (List ℕ)) (writes_before writes : ℕ)
+    (unchanged : told ≡ told_before) (none_falls : NoneFalls reads_before reads) (no_less : writes_before ≤ writes)
+    (status : Status) (text : List ℕ)
+    (said : Says Prints told_before ((name : List ℕ) × Asks name × HasRisen (reads_before name) (reads name)) status text) where
+  abbrev Fault : Type 0
+  Fault = (name : List ℕ) × Asks name × HasRisen (reads_before name) (reads name)
+
+  abbrev run_of : Status → Run
+  run_of result = record {
+    status = result;
+    told_before = told_before;
+    told = told;
+    reads_before = reads_before;
+    reads = reads;
+    got_before = got_before;
+    got = got;
+    writes_before = writes_before;
+    writes = writes;
+  }
+
+  pub ended : {result : Status} → Printed status text got_before got writes_before writes result → Ends Prints Asks (run_of result)
+  ended (whole gets) = record {
+    done = λ is. if_some told_before (λ file_of p. (text, p, gets)) (said_done Prints told_before Fault said is);
+    refused = λ is. if_some told_before (λ file_of p. (text, p, gets)) (said_refused Prints told_before Fault said is);
+    read_fault = λ is. let f = said_fault Prints told_before Fault said is in (f.0, rw f.1 at gets);
+    no_memory = λ is. let t = said_no_memory Prints told_before Fault said is in rw t at gets;
+    write_fault = λ is. absurd (said_no_write_fault Prints told_before Fault said is);
+    part = λ is. absurd (said_no_write_fault Prints told_before Fault said is);
+    complete = if_some told_before (λ file_of only other also p none _. only other also p none) (said_only Prints told_before Fault one said);
+    unchanged = unchanged;
+    reads = none_falls;
+    writes = no_less;
+  }
+  ended (part some risen) = record {
+    done = λ is. cc;
+    refused = λ is. cc;
+    read_fault = λ is. cc;
+    no_memory = λ is. cc;
+    write_fault = λ is. risen;
+    part = λ is. (status, text, said, some);
+    complete = always told_before (λ file_of other also p none unwritten. absurd (unwritten risen));
+    unchanged = unchanged;
+    reads = none_falls;
+    writes = no_less;
+  }
+
+-- What ends by one definition of what is printed ends by another one that says the same.
+module _ (Prints Same : (List ℕ → List ℕ) → Status → List ℕ → Type 0) (Asks More : List ℕ → Type 0)
+    (to : (file_of : List ℕ → List ℕ) (s : Status) (t : List ℕ) → Prints file_of s t → Same file_of s t)
+    (back : (file_of : List ℕ → List ℕ) (s : Status) (t : List ℕ) → Same file_of s t → Prints file_of s t)
+    (asks : (name : List ℕ) → Asks name → More name) (run : Run) where
+  fault : HasReadFault Asks run → HasReadFault More run
+  fault (name, asked, risen) = (name, asks name asked, risen)
+
+  said_same : {status : Status} {text : List ℕ} → Says Prints run.told_before (HasReadFault Asks run) status text
+      → Says Same run.told_before (HasReadFault More run) status text
+  said_same (done p) = done (if_some run.told_before (λ file_of p. to file_of _ _ p) p)
+  said_same (usage p) = usage (if_some run.told_before (λ file_of p. to file_of _ _ p) p)
+  said_same (refused p) = refused (if_some run.told_before (λ file_of p. to file_of _ _ p) p)
+  said_same (read_fault f) = read_fault (fault f)
+  said_same no_memory = no_memory
+
+  pub Ends-same : Ends Prints Asks run → Ends Same More run
+  Ends-same ends = record {
+    done = λ is. if_some run.told_before (λ file_of w. (w.0, to file_of _ _ w.1, w.2)) (ends.done is);
+    refused = λ is. if_some run.told_before (λ file_of w. (w.0, to file_of _ _ w.1, w.2)) (ends.refused is);
+    read_fault = λ is. let f = ends.read_fault is in (fault f.0, f.1);
+    no_memory = ends.no_memory;
+    write_fault = ends.write_fault;
+    part = λ is. let w = ends.part is in (w.0, w.1, said_same w.2, w.3);
+    complete = if_some run.told_before (λ file_of only s t p none. only s t (back file_of s t p) (λ f. none (fault f))) ends.complete;
+    unchanged = ends.unchanged;
+    reads = ends.reads;
+    writes = ends.writes;
+  }

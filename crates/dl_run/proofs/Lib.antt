@@ -4,14 +4,14 @@ pub mod ChainLemmas
 pub mod BelowLemmas
 pub mod MemberLemmas
 pub mod WordLemmas
-pub mod AnswerLemmas
 pub mod ScanLemmas
 pub mod LineLemmas
 pub mod DataLemmas
-pub mod CommandLemmas
 pub mod TokenLemmas
 pub mod OntologyLemmas
 pub mod QueryLemmas
 pub mod InputLemmas
+pub mod OutputLemmas
+pub mod AnswerLemmas
 pub mod EndingLemmas
-pub mod ProgramLemmas
+pub mod CommandLemmas

@@ -1,8 +1,7 @@
 -- Four words, and the form that they have.
 use Rattle.std.proofs.Common.{◌≡◌, ℕ, List, [], ◌∷◌, length, get_or, codes, subst, refl, arith}
-use Rattle.dl_run.specs.Words.{Form, answer, HasForm, IsPositional, default_limit}
+use Rattle.dl_run.specs.Words.{Form, answer, HasForm, HasNoForm, IsPositional, default_limit}
 use Rattle.dl_run.specs.Words.HasForm.{is_answer}
-use Rattle.dl_run.specs.Defined.{HasNoForm}
 
 pub four_items : {A : Type 0} (xs : List A) (a b c d : A) → length xs ≡ 4 → a ≡ get_or xs 0 a → b ≡ get_or xs 1 b → c ≡ get_or xs 2 c
     → d ≡ get_or xs 3 d → xs ≡ a ∷ b ∷ c ∷ d ∷ []

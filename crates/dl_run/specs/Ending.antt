@@ -1,39 +1,74 @@
--- How a command ends: its status, and what its sink got.
-use Rattle.std.specs.Prelude.{ℕ, ◌≡◌, ◌⊎◌, List, Option, Result, Ok, Err, IfSome, string_bytes}
-use Rattle.dl_io.specs.Count.{HasRisen}
+-- How a command ends: its status, what its sink got, and the counts of faults.
+use Rattle.std.specs.Prelude.{ℕ, ◌≡◌, ◌≤◌, ◌⊎◌, List, Option, IfSome}
+use Rattle.dl_io.specs.Count.{HasRisen, NoneFalls}
 use Rattle.dl_io.specs.Writing.{Gets, GetsPrefix}
-use Rattle.dl_run.specs.declared.answer.Output.{Output}
 use Rattle.dl_run.specs.declared.status.Status.{Status}
-use Rattle.dl_run.specs.declared.status.Status.TheVariants.{Done, Refused, ReadFault, NoMemory}
-use Rattle.dl_run.specs.declared.stop.Stop.{Stop}
-use Rattle.dl_run.specs.declared.stop.Stop.TheVariants as stops
-use Rattle.dl_run.specs.Texts.{not_built_text, read_fault_text, no_memory_text}
+use Rattle.dl_run.specs.declared.status.Status.TheVariants.{Done, Usage, Refused, ReadFault, WriteFault, NoMemory}
+use Rattle.dl_run.specs.Texts.{read_fault_text, no_memory_text}
 
--- where the library tells its files, the sink got a text that is printed with the status
-abbrev pub Wrote : Option (List ℕ → List ℕ) → ((List ℕ → List ℕ) → Status → List ℕ → Type 0) → Status → Option (List ℕ) → Option (List ℕ) → Type 0
-Wrote told Prints status before now = IfSome told (λ file_of. (text : List ℕ) × Prints file_of status text × Gets before now text)
+-- What is seen of a run: its status, and before and after it what the library tells of its files, the counts of faults of its names, what
+-- the sink got, where it tells it, and its count of faults.
+pub record Run : Type 0 where
+  pub status : Status
+  pub told_before : Option (List ℕ → List ℕ)
+  pub told : Option (List ℕ → List ℕ)
+  pub reads_before : List ℕ → ℕ
+  pub reads : List ℕ → ℕ
+  pub got_before : Option (List ℕ)
+  pub got : Option (List ℕ)
+  pub writes_before : ℕ
+  pub writes : ℕ
 
-module _ (told : Option (List ℕ → List ℕ)) (Prints : (List ℕ → List ℕ) → Status → List ℕ → Type 0) (faults faults' : ℕ) where
-  -- the text that goes with a status: that of a read fault only where the library's count of faults rose
+-- a fault of a file that is asked for was counted in the run
+abbrev pub HasReadFault : (List ℕ → Type 0) → Run → Type 0
+HasReadFault Asks run = (name : List ℕ) × Asks name × HasRisen (run.reads_before name) (run.reads name)
+
+-- a fault of the sink was counted in the run
+abbrev pub HasWriteFault : Run → Type 0
+HasWriteFault run = HasRisen run.writes_before run.writes
+
+-- What is printed is defined by the files (Prints), where the library tells them, and a fault of reading was counted or not (Fault).
+module _ (Prints : (List ℕ → List ℕ) → Status → List ℕ → Type 0) (told : Option (List ℕ → List ℕ)) (Fault : Type 0) where
+  -- the text that goes with a status: the one that is printed, that of a fault of reading, or that of want of memory
   pub data Says : Status → List ℕ → Type 0 where
-    printed : {status : Status} {text : List ℕ} → (status ≡ Done) ⊎ (status ≡ Refused) → IfSome told (λ file_of. Prints file_of status text)
-        → Says status text
-    read_fault : HasRisen faults faults' → Says ReadFault read_fault_text
+    done : {text : List ℕ} → IfSome told (λ file_of. Prints file_of Done text) → Says Done text
+    usage : {text : List ℕ} → IfSome told (λ file_of. Prints file_of Usage text) → Says Usage text
+    refused : {text : List ℕ} → IfSome told (λ file_of. Prints file_of Refused text) → Says Refused text
+    read_fault : Fault → Says ReadFault read_fault_text
     no_memory : Says NoMemory no_memory_text
 
+-- How printing a text ends: with the status that goes with it, or with a fault of the sink, which got a prefix of it.
+pub data Printed (status : Status) (text : List ℕ) (got_before got : Option (List ℕ)) (writes_before writes : ℕ) : Status → Type 0 where
+  whole : Gets got_before got text → Printed status text got_before got writes_before writes status
+  part : GetsPrefix got_before got text → HasRisen writes_before writes → Printed status text got_before got writes_before writes WriteFault
+
+-- What a run prints is defined by the files (Prints), and which files it asks for (Asks).
+module _ (Prints : (List ℕ → List ℕ) → Status → List ℕ → Type 0) (Asks : List ℕ → Type 0) (run : Run) where
+  -- where the library tells its files, the sink got a text that is printed with this status
+  abbrev pub Wrote : Status → Type 0
+  Wrote status = IfSome run.told_before (λ file_of. (text : List ℕ) × Prints file_of status text × Gets run.got_before run.got text)
+
   -- the sink got a prefix of a text that goes with some status
-  abbrev pub WrotePart : Option (List ℕ) → Option (List ℕ) → Type 0
-  WrotePart before now = (status : Status) × (text : List ℕ) × Says status text × GetsPrefix before now text
+  abbrev pub WrotePart : Type 0
+  WrotePart = (status : Status) × (text : List ℕ) × Says Prints run.told_before (HasReadFault Asks run) status text × GetsPrefix run.got_before run.got text
 
--- where the library tells its files and neither count of faults rises, the status is that which is printed, or there was no memory
-abbrev pub IsComplete : Option (List ℕ → List ℕ) → ((List ℕ → List ℕ) → Status → List ℕ → Type 0) → ℕ → ℕ → ℕ → ℕ → Status → Type 0
-IsComplete told Prints faults faults' sunk sunk' result =
-    IfSome told (λ file_of. (status : Status) (text : List ℕ) → Prints file_of status text
-    → (HasRisen faults faults' → ⊥) → (HasRisen sunk sunk' → ⊥) → (result ≡ status) ⊎ (result ≡ NoMemory))
+  -- where the library tells its files and no fault is counted, the status is the one that is printed, or there was no memory
+  abbrev pub IsComplete : Type 0
+  IsComplete = IfSome run.told_before (λ file_of. (status : Status) (text : List ℕ) → Prints file_of status text
+      → (HasReadFault Asks run → ⊥) → (HasWriteFault run → ⊥) → (run.status ≡ status) ⊎ (run.status ≡ NoMemory))
 
--- the status and the text of an output, or of what stands in its place
-abbrev pub EndsAs : Result Output Stop → Status → List ℕ → Type 0
-EndsAs (Ok out) status text = (status ≡ out.status) × (text ≡ string_bytes out.text)
-EndsAs (Err stops.NotBuilt) status text = (status ≡ Refused) × (text ≡ not_built_text)
-EndsAs (Err stops.ReadFault) status text = (status ≡ ReadFault) × (text ≡ read_fault_text)
-EndsAs (Err stops.NoMemory) status text = (status ≡ NoMemory) × (text ≡ no_memory_text)
+  -- how a run ends
+  pub record Ends : Type 0 where
+    -- where the library tells its files, the sink got the defined output
+    pub done : run.status ≡ Done → Wrote Done
+    pub refused : run.status ≡ Refused → Wrote Refused
+    -- when each fault comes, and what the sink then got
+    pub read_fault : run.status ≡ ReadFault → HasReadFault Asks run × Gets run.got_before run.got read_fault_text
+    pub no_memory : run.status ≡ NoMemory → Gets run.got_before run.got no_memory_text
+    pub write_fault : run.status ≡ WriteFault → HasWriteFault run
+    pub part : run.status ≡ WriteFault → WrotePart
+    pub complete : IsComplete
+    -- what the library tells stays, and no count falls
+    pub unchanged : run.told ≡ run.told_before
+    pub reads : NoneFalls run.reads_before run.reads
+    pub writes : run.writes_before ≤ run.writes

@@ -1,6 +1,10 @@
--- The program's words of a form as the written form that they stand for.
-use Rattle.dl_run.specs.Words.{Form, answer}
-use Rattle.dl_run.specs.declared.words.AnswerWords.{AnswerWords}
+-- What the program finds in its words, as the written form that they have.
+use Rattle.std.specs.Prelude.{ℕ, List}
+use Rattle.dl_run.specs.Words.{answer, HasForm, HasNoForm}
+use Rattle.dl_run.specs.declared.words.Form.{Form}
+use Rattle.dl_run.specs.declared.words.Form.TheVariants.{Answer, Usage}
 
-abbrev pub form_view : AnswerWords → Form
-form_view words = answer words.ontology.now words.facts.now words.query.now words.limit
+-- the words have this form, or none
+abbrev pub IsFormOf : List (List ℕ) → Form → Type 0
+IsFormOf words (Answer found) = HasForm words (answer found.ontology.now found.facts.now found.query.now found.limit)
+IsFormOf words Usage = HasNoForm words

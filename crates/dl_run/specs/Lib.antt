@@ -1,5 +1,6 @@
 pub mod Faults
 pub mod Words
+pub mod Refusals
 pub mod Texts
 pub mod Tokens
 pub mod Inclusions
@@ -15,6 +16,7 @@ pub mod Output
 pub mod Defined
 pub mod Ranked
 pub mod Ending
+pub mod Answered
 pub mod Forms
 pub mod Stops
 pub mod Asked

@@ -25,7 +25,3 @@ facts_line facts skipped = codes "facts " ++ (decimal facts ++ (codes " skipped 
 -- the answers: how many, and each on a line
 abbrev pub answers_text : List Text → List (List ℕ) → List ℕ
 answers_text names tuples = codes "answers " ++ (decimal (length tuples) ++ 10 ∷ flat_map (tuple_line names) tuples)
-
--- that there are more answers than the limit
-abbrev pub more_than_text : ℕ → List ℕ
-more_than_text limit = codes "refused: more than " ++ (decimal limit ++ (codes " answers" ++ 10 ∷ []))

@@ -11,10 +11,6 @@ usage_text =
     line (codes "usage: quest answer ONTOLOGY DATA QUERY [--limit N]")
     ++ (line (codes "       quest run ONTOLOGY DATA STREAMS [--shards N]") ++ line (codes "       quest gen NUMBER SIZE"))
 
--- the input is of a form that isn't read yet
-abbrev pub not_built_text : List ℕ
-not_built_text = line (codes "refused: not built")
-
 -- a file could not be read
 abbrev pub read_fault_text : List ℕ
 read_fault_text = line (codes "read fault")

@@ -1,76 +1,108 @@
 // The command `answer` and the program: words, files and what is written.
-ghost use Rattle.std.specs.Prelude.{◌≡◌, ◌≢◌, ◌≤◌, ◌⊎◌, ℕ, List, map, IfOk, IfSome, Err, string_bytes};
-ghost use Rattle.dl_io.specs.Count.{HasRisen};
+ghost use Rattle.std.specs.Prelude.{◌≡◌, ◌≤◌, ◌⊎◌, ◌∷◌, [], ℕ, map, OnOk, OnErr, List, string_bytes};
+ghost use Rattle.std.specs.List.{Contains};
+ghost use Rattle.dl_io.specs.Count.{HasRisen, NoneFalls};
 ghost use Rattle.dl_io.specs.Writing.{Gets, GetsPrefix};
-ghost use Rattle.dl_run.specs.Defined.{HasSomeForm, HasNoForm, IsNoInput, AnswerOf, Prints};
-ghost use Rattle.dl_run.specs.Ending.{Wrote, WrotePart, IsComplete, EndsAs};
-ghost use Rattle.dl_run.specs.Texts.{usage_text, read_fault_text, no_memory_text};
-ghost use Rattle.dl_run.specs.declared.status.Status.{Status};
+ghost use Rattle.dl_run.specs.Answered.{status_of, text_of};
+ghost use Rattle.dl_run.specs.Defined.{AnswerOf, Prints};
+ghost use Rattle.dl_run.specs.Ending.{Says, Printed, Ends};
+ghost use Rattle.dl_run.specs.Texts.{usage_text, no_memory_text};
+ghost use Rattle.dl_run.specs.Words.{HasSomeForm, HasNoForm, AskFor};
 
-use crate::answer::{Output, output_for};
+use crate::answer::Answers;
 use crate::input::input_of;
+use crate::output::print_output;
+use crate::replies::answers_for;
 use crate::status::Status;
 use crate::stop::Stop;
-use crate::texts::{NO_MEMORY, NOT_BUILT, READ_FAULT, USAGE};
-use crate::words::form_of;
-use dl_io::{Library, Sink, read_whole, write_all};
+use crate::texts::{NO_MEMORY, USAGE};
+use crate::words::{AnswerWords, Form, form_of};
+use dl_io::{Failed, GATHERED, GatheringSink, Library, Sink, read_whole, write_all};
 use std::alloc::Global;
 
-/// The output of `answer` for its three files, which are read whole, in the order of the words.
-fn output_of<L: Library>(
+/// The answers of `answer` for its three files, which are read whole, in the order of the words. All
+/// that printing them takes is made before: `gathered` gets its room here, and stays empty.
+fn answers_of<L: Library>(
     alloc: Global,
     files: &mut L,
-    ontology: &str,
-    facts: &str,
-    query: &str,
-    limit: u64,
-) -> Result<Output, Stop>
-    ensures prints { IfOk result (λ out. IfSome (L.told files.old) (λ file_of.
-        AnswerOf ontology.now facts.now query.now limit file_of
-        out.status (string_bytes out.text))) }
-    ensures only { IfOk result (λ out. IfSome (L.told files.old) (λ file_of.
-        (status : Status) (text : List ℕ) →
-        AnswerOf ontology.now facts.now query.now limit file_of status text →
-        out.status ≡ status)) }
-    ensures kind { IfOk result (λ out. (out.status ≡ Status.Done) ⊎ (out.status ≡ Status.Refused)) }
-    ensures not_built { result ≡ Err Stop.NotBuilt → IfSome (L.told files.old) (λ file_of.
-        IsNoInput (file_of ontology.now) (file_of facts.now) (file_of query.now)) }
-    ensures read_fault { result ≡ Err Stop.ReadFault →
-        HasRisen (L.faults files.old) (L.faults files.new) }
+    words: &AnswerWords<'_>,
+    gathered: &mut Vec<u8>,
+) -> Result<Answers, Stop>
+    ensures says { Says
+        (AnswerOf words.now.ontology.now words.now.facts.now words.now.query.now words.now.limit)
+        (L.told files.old)
+        ((name : List ℕ)
+        × Contains (words.now.ontology.now ∷ words.now.facts.now ∷ words.now.query.now ∷ []) name
+        × HasRisen (L.faults files.old name) (L.faults files.new name))
+        (status_of result) (text_of result) }
+    ensures gathered { gathered.new.items ≡ gathered.old.items }
     ensures unchanged { L.told files.new ≡ L.told files.old }
-    ensures count { L.faults files.old ≤ L.faults files.new }
+    ensures count { NoneFalls (L.faults files.old) (L.faults files.new) }
 {
-    let ontology = read_whole(alloc, files, ontology)?;
-    let facts = read_whole(alloc, files, facts)?;
-    let query = read_whole(alloc, files, query)?;
+    let ontology = read_whole(alloc, files, words.ontology)?;
+    let facts = read_whole(alloc, files, words.facts)?;
+    let query = read_whole(alloc, files, words.query)?;
     let asked = input_of(
         alloc,
         ontology.as_slice(),
         facts.as_slice(),
         query.as_slice(),
     )?;
-    Ok(output_for(alloc, &asked, limit)?)
+    gathered.reserve(GATHERED)?;
+    answers_for(alloc, asked, words.limit)
 }
 
-/// The status and the text of what `output_of` gave. It takes no memory.
-fn ending(output: &Result<Output, Stop>) -> (Status, &str)
-    ensures { EndsAs output.now result.0 result.1.now }
+/// The status of answers, or of what stands in their place.
+fn status_of(output: &Result<Answers, Stop>) -> Status
+    ensures { result ≡ status_of output.now }
 {
     match output {
-        Ok(out) => (out.status, out.text.as_str()),
-        Err(Stop::NotBuilt) => (Status::Refused, NOT_BUILT),
-        Err(Stop::ReadFault) => (Status::ReadFault, READ_FAULT),
-        Err(Stop::NoMemory) => (Status::NoMemory, NO_MEMORY),
+        Ok(_) => Status::Done,
+        Err(Stop::Refused(_)) => Status::Refused,
+        Err(Stop::ReadFault) => Status::ReadFault,
+        Err(Stop::NoMemory) => Status::NoMemory,
     }
+}
+
+/// Writes answers, or what stands in their place, through a buffer that gathers the pieces. It takes
+/// no memory.
+fn write_output<S: Sink>(
+    sink: &mut S,
+    gathered: &mut Vec<u8>,
+    output: &Result<Answers, Stop>,
+) -> Status
+    requires { gathered.old.items ≡ [] }
+    ensures printed { Printed (status_of output.now) (text_of output.now)
+        (S.got sink.old) (S.got sink.new) (S.faults sink.old) (S.faults sink.new) result }
+    ensures count { S.faults sink.old ≤ S.faults sink.new }
+{
+    match print(sink, gathered, output) {
+        Ok(()) => status_of(output),
+        Err(_) => Status::WriteFault,
+    }
+}
+
+/// Prints answers, or what stands in their place, through a buffer that gathers the pieces.
+fn print<S: Sink>(
+    sink: &mut S,
+    gathered: &mut Vec<u8>,
+    output: &Result<Answers, Stop>,
+) -> Result<(), Failed>
+    requires { gathered.old.items ≡ [] }
+    ensures all { OnOk result (Gets (S.got sink.old) (S.got sink.new) (text_of output.now)) }
+    ensures prefix { OnErr result
+        (GetsPrefix (S.got sink.old) (S.got sink.new) (text_of output.now)) }
+    ensures count { S.faults sink.old ≤ S.faults sink.new }
+    ensures failed { OnErr result (HasRisen (S.faults sink.old) (S.faults sink.new)) }
+{
+    let mut out = GatheringSink::new(sink, gathered);
+    print_output(&mut out, output)
 }
 
 /// Writes a text, and answers the status that goes with it, or that writing failed.
 fn write_text<S: Sink>(sink: &mut S, status: Status, text: &str) -> Status
-    ensures all { result ≢ Status.WriteFault →
-        (result ≡ status) × Gets (S.got sink.old) (S.got sink.new) text.now }
-    ensures same { (result ≡ status) ⊎ (result ≡ Status.WriteFault) }
-    ensures prefix { result ≢ status → GetsPrefix (S.got sink.old) (S.got sink.new) text.now }
-    ensures failed { result ≢ status → HasRisen (S.faults sink.old) (S.faults sink.new) }
+    ensures printed { Printed status text.now
+        (S.got sink.old) (S.got sink.new) (S.faults sink.old) (S.faults sink.new) result }
     ensures count { S.faults sink.old ≤ S.faults sink.new }
 {
     match write_all(sink, text.as_bytes()) {
@@ -92,37 +124,30 @@ pub fn answer_command<L: Library, S: Sink>(
     query: &str,
     limit: u64,
 ) -> Status
-    // Where the library tells its files, the sink got the defined output.
-    ensures done { result ≡ Status.Done →
-        Wrote (L.told files.old) (AnswerOf ontology.now facts.now query.now limit)
-        Status.Done (S.got sink.old) (S.got sink.new) }
-    ensures refused { result ≡ Status.Refused →
-        Wrote (L.told files.old) (AnswerOf ontology.now facts.now query.now limit)
-        Status.Refused (S.got sink.old) (S.got sink.new) }
-
-    // When each fault comes, and what the sink then got.
-    ensures read_fault { result ≡ Status.ReadFault →
-        HasRisen (L.faults files.old) (L.faults files.new)
-        × Gets (S.got sink.old) (S.got sink.new) read_fault_text }
-    ensures no_memory { result ≡ Status.NoMemory →
-        Gets (S.got sink.old) (S.got sink.new) no_memory_text }
-    ensures write_fault { result ≡ Status.WriteFault →
-        HasRisen (S.faults sink.old) (S.faults sink.new) }
-    ensures part { result ≡ Status.WriteFault →
-        WrotePart (L.told files.old) (AnswerOf ontology.now facts.now query.now limit)
-        (L.faults files.old) (L.faults files.new) (S.got sink.old) (S.got sink.new) }
+    ensures ends { Ends (AnswerOf ontology.now facts.now query.now limit)
+        (Contains (ontology.now ∷ facts.now ∷ query.now ∷ []))
+        (record {
+          status = result;
+          told_before = L.told files.old;
+          told = L.told files.new;
+          reads_before = L.faults files.old;
+          reads = L.faults files.new;
+          got_before = S.got sink.old;
+          got = S.got sink.new;
+          writes_before = S.faults sink.old;
+          writes = S.faults sink.new;
+        }) }
     ensures usage { result ≡ Status.Usage → ⊥ }
-
-    ensures complete { IsComplete (L.told files.old)
-        (AnswerOf ontology.now facts.now query.now limit)
-        (L.faults files.old) (L.faults files.new) (S.faults sink.old) (S.faults sink.new) result }
-    ensures unchanged { L.told files.new ≡ L.told files.old }
-    ensures reads { L.faults files.old ≤ L.faults files.new }
-    ensures writes { S.faults sink.old ≤ S.faults sink.new }
 {
-    let output = output_of(alloc, files, ontology, facts, query, limit);
-    let (status, text) = ending(&output);
-    write_text(sink, status, text)
+    let words = AnswerWords {
+        ontology,
+        facts,
+        query,
+        limit,
+    };
+    let mut gathered = Vec::new(alloc);
+    let output = answers_of(alloc, files, &words, &mut gathered);
+    write_output(sink, &mut gathered, &output)
 }
 
 /// The program: the words after its name, the files and the output. It answers `Usage` exactly where the words have no written form,
@@ -134,13 +159,18 @@ pub fn quest<L: Library, S: Sink>(
     files: &mut L,
     sink: &mut S,
 ) -> Status
-    // Where the library tells its files, the sink got the defined output.
-    ensures done { result ≡ Status.Done →
-        Wrote (L.told files.old) (Prints (map string_bytes words.now))
-        Status.Done (S.got sink.old) (S.got sink.new) }
-    ensures refused { result ≡ Status.Refused →
-        Wrote (L.told files.old) (Prints (map string_bytes words.now))
-        Status.Refused (S.got sink.old) (S.got sink.new) }
+    ensures ends { Ends (Prints (map string_bytes words.now)) (AskFor (map string_bytes words.now))
+        (record {
+          status = result;
+          told_before = L.told files.old;
+          told = L.told files.new;
+          reads_before = L.faults files.old;
+          reads = L.faults files.new;
+          got_before = S.got sink.old;
+          got = S.got sink.new;
+          writes_before = S.faults sink.old;
+          writes = S.faults sink.new;
+        }) }
 
     // Words without a written form.
     ensures usage { result ≡ Status.Usage →
@@ -148,29 +178,10 @@ pub fn quest<L: Library, S: Sink>(
     ensures no_form { HasNoForm (map string_bytes words.now) →
         (result ≡ Status.Usage) ⊎
         ((result ≡ Status.WriteFault) × GetsPrefix (S.got sink.old) (S.got sink.new) usage_text) }
-
-    // When each fault comes, and what the sink then got.
-    ensures read_fault { result ≡ Status.ReadFault →
-        HasRisen (L.faults files.old) (L.faults files.new)
-        × Gets (S.got sink.old) (S.got sink.new) read_fault_text }
-    ensures no_memory { result ≡ Status.NoMemory →
-        HasSomeForm (map string_bytes words.now) ×
-        Gets (S.got sink.old) (S.got sink.new) no_memory_text }
-    ensures write_fault { result ≡ Status.WriteFault →
-        HasRisen (S.faults sink.old) (S.faults sink.new) }
-    ensures part { result ≡ Status.WriteFault →
-        HasSomeForm (map string_bytes words.now) →
-        WrotePart (L.told files.old) (Prints (map string_bytes words.now))
-        (L.faults files.old) (L.faults files.new) (S.got sink.old) (S.got sink.new) }
-
-    ensures complete { IsComplete (L.told files.old) (Prints (map string_bytes words.now))
-        (L.faults files.old) (L.faults files.new) (S.faults sink.old) (S.faults sink.new) result }
-    ensures unchanged { L.told files.new ≡ L.told files.old }
-    ensures reads { L.faults files.old ≤ L.faults files.new }
-    ensures writes { S.faults sink.old ≤ S.faults sink.new }
+    ensures no_memory { result ≡ Status.NoMemory → HasSomeForm (map string_bytes words.now) }
 {
     match form_of(words) {
-        Some(answer) => answer_command(
+        Form::Answer(answer) => answer_command(
             alloc,
             files,
             sink,
@@ -179,17 +190,14 @@ pub fn quest<L: Library, S: Sink>(
             answer.query,
             answer.limit,
         ),
-        None => write_text(sink, Status::Usage, USAGE),
+        Form::Usage => write_text(sink, Status::Usage, USAGE),
     }
 }
 
 /// The ending where there was no memory even for the words.
 pub fn without_memory<S: Sink>(sink: &mut S) -> Status
-    ensures no_memory { result ≢ Status.WriteFault →
-        (result ≡ Status.NoMemory) × Gets (S.got sink.old) (S.got sink.new) no_memory_text }
-    ensures write_fault { result ≡ Status.WriteFault →
-        HasRisen (S.faults sink.old) (S.faults sink.new)
-        × GetsPrefix (S.got sink.old) (S.got sink.new) no_memory_text }
+    ensures { Printed Status.NoMemory no_memory_text
+        (S.got sink.old) (S.got sink.new) (S.faults sink.old) (S.faults sink.new) result }
 {
     write_text(sink, Status::NoMemory, NO_MEMORY)
 }

@@ -12,6 +12,7 @@ mod ontology;
 mod output;
 mod question;
 mod ranked;
+mod replies;
 mod scan;
 mod status;
 mod stop;

@@ -1,75 +1,148 @@
-// The texts of the output.
-ghost use Rattle.std.specs.Prelude.{◌≡◌, ◌<◌, ◌++◌, ◌∷◌, [], length, IfOk, OnOk, string_bytes};
+// What is printed, piece by piece, through a sink that gathers the pieces. It takes no memory.
+ghost use Rattle.std.specs.Prelude.{◌≡◌, ◌≤◌, ◌<◌, ◌∷◌, [], length, OnOk, OnErr};
 ghost use Rattle.std.specs.List.{All, flat_map};
-ghost use Rattle.std.specs.Fmt.{decimal};
+ghost use Rattle.dl_io.specs.Count.{HasRisen};
+ghost use Rattle.dl_io.specs.Gathering.{Takes, TakesPrefix, state_of};
+ghost use Rattle.dl_run.specs.Answered.{text_of, text_of_answers};
 ghost use Rattle.dl_run.specs.Members.{singles};
-ghost use Rattle.dl_run.specs.Output.{facts_line, answers_text, tuple_line, more_than_text};
+ghost use Rattle.dl_run.specs.Output.{tuple_line};
+ghost use Rattle.dl_run.specs.Refusals.{refusal_text};
 
+use crate::answer::Answers;
+use crate::stop::{Refusal, Stop};
+use crate::texts::{NO_MEMORY, READ_FAULT};
+use dl_io::{Failed, GatheringSink, Sink};
 use dl_names::Names;
-use std::alloc::{AllocError, Global};
+use itoa::Buffer;
 
-/// The output of `answer`: how many facts there are and how many triples were skipped, and the answers, which are tuples of one name.
-pub(crate) fn answers_output(
-    alloc: Global,
+/// Prints answers, or what stands in their place, and hands all of it on.
+pub(crate) fn print_output<S: Sink>(
+    out: &mut GatheringSink<'_, S>,
+    output: &Result<Answers, Stop>,
+) -> Result<(), Failed>
+    ensures same_reference { out.new.sink.ghost_name ≡ out.old.sink.ghost_name }
+    ensures all { OnOk result
+        (Takes (state_of S.got out.old) (state_of S.got out.new) (text_of output.now)) }
+    ensures handed { OnOk result (out.new.gathered.now.items ≡ []) }
+    ensures prefix { OnErr result
+        (TakesPrefix (state_of S.got out.old) (state_of S.got out.new) (text_of output.now)) }
+    ensures count { S.faults out.old.sink.now ≤ S.faults out.new.sink.now }
+    ensures failed { OnErr result
+        (HasRisen (S.faults out.old.sink.now) (S.faults out.new.sink.now)) }
+{
+    put_output(out, output)?;
+    out.finish()
+}
+
+/// Prints answers, or what stands in their place.
+fn put_output<S: Sink>(
+    out: &mut GatheringSink<'_, S>,
+    output: &Result<Answers, Stop>,
+) -> Result<(), Failed>
+    ensures same_reference { out.new.sink.ghost_name ≡ out.old.sink.ghost_name }
+    ensures all { OnOk result
+        (Takes (state_of S.got out.old) (state_of S.got out.new) (text_of output.now)) }
+    ensures prefix { OnErr result
+        (TakesPrefix (state_of S.got out.old) (state_of S.got out.new) (text_of output.now)) }
+    ensures count { S.faults out.old.sink.now ≤ S.faults out.new.sink.now }
+    ensures failed { OnErr result
+        (HasRisen (S.faults out.old.sink.now) (S.faults out.new.sink.now)) }
+{
+    match output {
+        Ok(answers) => put_answers(out, answers),
+        Err(Stop::Refused(refusal)) => put_refusal(out, *refusal),
+        Err(Stop::ReadFault) => out.put(READ_FAULT.as_bytes()),
+        Err(Stop::NoMemory) => out.put(NO_MEMORY.as_bytes()),
+    }
+}
+
+/// Prints why an input is refused.
+fn put_refusal<S: Sink>(out: &mut GatheringSink<'_, S>, refusal: Refusal) -> Result<(), Failed>
+    ensures same_reference { out.new.sink.ghost_name ≡ out.old.sink.ghost_name }
+    ensures all { OnOk result
+        (Takes (state_of S.got out.old) (state_of S.got out.new) (refusal_text refusal)) }
+    ensures prefix { OnErr result
+        (TakesPrefix (state_of S.got out.old) (state_of S.got out.new) (refusal_text refusal)) }
+    ensures count { S.faults out.old.sink.now ≤ S.faults out.new.sink.now }
+    ensures failed { OnErr result
+        (HasRisen (S.faults out.old.sink.now) (S.faults out.new.sink.now)) }
+{
+    match refusal {
+        Refusal::NotBuilt => put_all(out, &["refused: ", "not built", "\n"]),
+        Refusal::TooMany { limit } => {
+            let mut digits = Buffer::new();
+            let limit = digits.format(limit);
+            put_all(out, &["refused: ", "more than ", limit, " answers", "\n"])
+        }
+    }
+}
+
+/// Prints how many facts and answers there are, and a line for each answer.
+fn put_answers<S: Sink>(out: &mut GatheringSink<'_, S>, answers: &Answers) -> Result<(), Failed>
+    ensures same_reference { out.new.sink.ghost_name ≡ out.old.sink.ghost_name }
+    ensures all { OnOk result
+        (Takes (state_of S.got out.old) (state_of S.got out.new) (text_of_answers answers.now)) }
+    ensures prefix { OnErr result
+        (TakesPrefix (state_of S.got out.old) (state_of S.got out.new)
+        (text_of_answers answers.now)) }
+    ensures count { S.faults out.old.sink.now ≤ S.faults out.new.sink.now }
+    ensures failed { OnErr result
+        (HasRisen (S.faults out.old.sink.now) (S.faults out.new.sink.now)) }
+{
+    let (mut facts, mut skipped, mut count) = (Buffer::new(), Buffer::new(), Buffer::new());
+    let facts = facts.format(answers.facts as u64);
+    let skipped = skipped.format(answers.skipped);
+    let count = count.format(answers.found.len() as u64);
+    put_all(
+        out,
+        &[
+            "facts ",
+            facts,
+            " skipped ",
+            skipped,
+            "\nanswers ",
+            count,
+            "\n",
+        ],
+    )?;
+    put_lines(out, &answers.names, answers.found.as_slice())
+}
+
+/// Prints a line for each answer.
+fn put_lines<S: Sink>(
+    out: &mut GatheringSink<'_, S>,
     names: &Names,
-    facts: usize,
-    skipped: u64,
     answers: &[u32],
-) -> Result<String, AllocError>
+) -> Result<(), Failed>
     requires { All (λ n. n < length names.now) answers.now }
-    ensures { IfOk result (λ text. string_bytes text ≡
-        facts_line facts skipped ++ answers_text names.now (singles answers.now)) }
-{
-    let mut out = String::new(alloc);
-    push_number(&mut out, "facts ", facts as u64)?;
-    push_number(&mut out, " skipped ", skipped)?;
-    push_number(&mut out, "\nanswers ", answers.len() as u64)?;
-    out.push_str("\n")?;
-    push_answers(&mut out, names, answers)?;
-    Ok(out)
-}
-
-/// The refusal of more answers than the limit.
-pub(crate) fn more_than_output(alloc: Global, limit: u64) -> Result<String, AllocError>
-    ensures { IfOk result (λ text. string_bytes text ≡ more_than_text limit) }
-{
-    let mut out = String::new(alloc);
-    push_number(&mut out, "refused: more than ", limit)?;
-    out.push_str(" answers\n")?;
-    Ok(out)
-}
-
-/// Appends a text and a number.
-fn push_number(out: &mut String, before: &str, number: u64) -> Result<(), AllocError>
-    ensures { OnOk result (string_bytes out.new ≡
-        string_bytes out.old ++ (before.now ++ decimal number)) }
-{
-    let alloc = *out.allocator();
-    out.push_str(before)?;
-    out.push_str(number.to_string(alloc)?.as_str())?;
-    Ok(())
-}
-
-/// Appends a line for each answer.
-fn push_answers(out: &mut String, names: &Names, answers: &[u32]) -> Result<(), AllocError>
-    requires { All (λ n. n < length names.now) answers.now }
-    ensures { OnOk result (string_bytes out.new ≡
-        string_bytes out.old ++ flat_map (tuple_line names.now) (singles answers.now)) }
+    ensures same_reference { out.new.sink.ghost_name ≡ out.old.sink.ghost_name }
+    ensures all { OnOk result (Takes (state_of S.got out.old) (state_of S.got out.new)
+        (flat_map (tuple_line names.now) (singles answers.now))) }
+    ensures prefix { OnErr result (TakesPrefix (state_of S.got out.old) (state_of S.got out.new)
+        (flat_map (tuple_line names.now) (singles answers.now))) }
+    ensures count { S.faults out.old.sink.now ≤ S.faults out.new.sink.now }
+    ensures failed { OnErr result
+        (HasRisen (S.faults out.old.sink.now) (S.faults out.new.sink.now)) }
 {
     for name in answers {
-        push_answer(out, names, *name)?;
+        put_all(out, &["(<", names.text(*name), ">)\n"])?;
     }
     Ok(())
 }
 
-/// Appends the line of one answer.
-fn push_answer(out: &mut String, names: &Names, name: u32) -> Result<(), AllocError>
-    requires { name < length names.now }
-    ensures { OnOk result (string_bytes out.new ≡
-        string_bytes out.old ++ tuple_line names.now (name ∷ [])) }
+/// Prints pieces one after another.
+fn put_all<S: Sink>(out: &mut GatheringSink<'_, S>, pieces: &[&str]) -> Result<(), Failed>
+    ensures same_reference { out.new.sink.ghost_name ≡ out.old.sink.ghost_name }
+    ensures all { OnOk result (Takes (state_of S.got out.old) (state_of S.got out.new)
+        (flat_map (λ piece. piece.now) pieces.now)) }
+    ensures prefix { OnErr result (TakesPrefix (state_of S.got out.old) (state_of S.got out.new)
+        (flat_map (λ piece. piece.now) pieces.now)) }
+    ensures count { S.faults out.old.sink.now ≤ S.faults out.new.sink.now }
+    ensures failed { OnErr result
+        (HasRisen (S.faults out.old.sink.now) (S.faults out.new.sink.now)) }
 {
-    out.push_str("(<")?;
-    out.push_str(names.text(name))?;
-    out.push_str(">)\n")?;
+    for piece in pieces {
+        out.put(piece.as_bytes())?;
+    }
     Ok(())
 }

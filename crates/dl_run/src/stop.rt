@@ -1,4 +1,4 @@
-// Why a command ends before it has an output.
+// Why a command ends before it has answers.
 ghost use Rattle.std.specs.Prelude.{◌≡◌};
 ghost use Rattle.dl_run.specs.Stops.{stop_of_file, stop_of_fault};
 ghost use Rattle.dl_run.specs.declared.stop.Stop.TheVariants.{NoMemory};
@@ -7,11 +7,20 @@ use crate::fault::Fault;
 use dl_io::FileFault;
 use std::alloc::AllocError;
 
-/// Why a command ends before it has an output.
-#[derive(Clone, Copy, Debug, PartialEq, Eq)]
-pub(crate) enum Stop {
+/// Why an input is refused.
+#[derive(Clone, Copy)]
+pub(crate) enum Refusal {
     /// The files give no input of the forms that are read so far.
     NotBuilt,
+    /// There are more answers than the limit.
+    TooMany { limit: u64 },
+}
+
+/// Why a command ends before it has answers.
+#[derive(Clone, Copy)]
+pub(crate) enum Stop {
+    /// The input is refused.
+    Refused(Refusal),
     /// Reading failed.
     ReadFault,
     /// There was no memory.
@@ -24,7 +33,7 @@ impl From<FileFault> for Stop {
     fn from(fault: FileFault) -> Stop {
         match fault {
             FileFault::Failed => Stop::ReadFault,
-            FileFault::TooLong => Stop::NotBuilt,
+            FileFault::TooLong => Stop::Refused(Refusal::NotBuilt),
             FileFault::NoMemory => Stop::NoMemory,
         }
     }
@@ -35,7 +44,7 @@ impl From<Fault> for Stop {
 
     fn from(fault: Fault) -> Stop {
         match fault {
-            Fault::NotBuilt => Stop::NotBuilt,
+            Fault::NotBuilt => Stop::Refused(Refusal::NotBuilt),
             Fault::NoMemory => Stop::NoMemory,
         }
     }

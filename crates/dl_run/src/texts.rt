@@ -4,9 +4,6 @@
 pub const USAGE: &str =
     "usage: quest answer ONTOLOGY DATA QUERY [--limit N]\n       quest run ONTOLOGY DATA STREAMS [--shards N]\n       quest gen NUMBER SIZE\n";
 
-/// The input is of a form that isn't read yet.
-pub const NOT_BUILT: &str = "refused: not built\n";
-
 /// A file could not be read.
 pub const READ_FAULT: &str = "read fault\n";
 

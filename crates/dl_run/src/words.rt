@@ -1,11 +1,19 @@
 // The written forms of the words.
-ghost use Rattle.std.specs.Prelude.{◌≡◌, ◌↔◌, codes, map, IsTrue, IfSome, IfNone, string_bytes};
-ghost use Rattle.dl_run.specs.Words.{HasForm, IsPositional};
-ghost use Rattle.dl_run.specs.Defined.{HasNoForm};
-ghost use Rattle.dl_run.specs.Forms.{form_view};
+ghost use Rattle.std.specs.Prelude.{◌≡◌, ◌↔◌, codes, map, IsTrue, string_bytes};
+ghost use Rattle.dl_run.specs.Words.{IsPositional};
+ghost use Rattle.dl_run.specs.Forms.{IsFormOf};
 
 /// How many answers `answer` prints at most, where no option says otherwise.
 const DEFAULT_LIMIT: u64 = 10_000;
+
+/// The written form that words have, with the names of its files and its options.
+#[derive(Drop)]
+pub(crate) enum Form<'a> {
+    /// The command `answer`.
+    Answer(AnswerWords<'a>),
+    /// None of the written forms.
+    Usage,
+}
 
 /// The words of `answer`: the names of its files, and how many answers it prints at most.
 #[derive(Drop)]
@@ -17,18 +25,17 @@ pub(crate) struct AnswerWords<'a> {
 }
 
 /// The form that the words have. It takes no memory.
-pub(crate) fn form_of(words: &[String]) -> Option<AnswerWords<'_>>
-    ensures some { IfSome result (λ form. HasForm (map string_bytes words.now) (form_view form)) }
-    ensures none { IfNone result (HasNoForm (map string_bytes words.now)) }
+pub(crate) fn form_of(words: &[String]) -> Form<'_>
+    ensures { IsFormOf (map string_bytes words.now) result }
 {
     let [command, ontology, facts, query] = words else {
-        return None;
+        return Form::Usage;
     };
     let (ontology, facts, query) = (ontology.as_str(), facts.as_str(), query.as_str());
     if !is_answer(command.as_str(), ontology, facts, query) {
-        return None;
+        return Form::Usage;
     }
-    Some(AnswerWords {
+    Form::Answer(AnswerWords {
         ontology,
         facts,
         query,

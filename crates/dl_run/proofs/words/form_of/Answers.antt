@@ -3,8 +3,8 @@ use Rattle.std.proofs.lemmas.Bool.{false≢true}
 use Rattle.dl_run.proofs.WordLemmas.{four_items, four_words, no_form}
 use Rattle.dl_run.proofs.words.form_of.Goals as goal
 
-pub returns-then-not-is_answer-clause-none : goal.returns-then-not-is_answer-clause-none
-returns-then-not-is_answer-clause-none c =
+pub returns-then-not-is_answer : goal.returns-then-not-is_answer
+returns-then-not-is_answer c =
     let four = four_items c.args.words.now c.command-item.result c.ontology-item.result c.facts-item.result c.query-item.result (omega arith)
     c.command-item.is c.ontology-item.is c.facts-item.is c.query-item.is in
     let bytes = ap (map string_bytes) four in
@@ -16,8 +16,8 @@ returns-then-not-is_answer-clause-none c =
     cc in
     no_form _ _ _ _ _ words (λ h. false≢true (c.if-not-is_answer.ensures.1 h))
 
-pub returns-clause-some : goal.returns-clause-some
-returns-clause-some c =
+pub returns : goal.returns
+returns c =
     let four = four_items c.args.words.now c.command-item.result c.ontology-item.result c.facts-item.result c.query-item.result (omega arith)
     c.command-item.is c.ontology-item.is c.facts-item.is c.query-item.is in
     let bytes = ap (map string_bytes) four in
