@@ -5,10 +5,14 @@
 #[cfg(test)]
 mod intervals;
 #[cfg(test)]
+mod io;
+#[cfg(test)]
 mod lex;
 #[cfg(test)]
 mod names;
 #[cfg(test)]
 mod reach;
+#[cfg(test)]
+mod run;
 #[cfg(test)]
 mod terms;

@@ -1,0 +1,371 @@
+// What libraries of files and sinks of bytes do.
+ghost use Rattle.std.specs.Prelude.{ℕ, ◌≡◌, ◌≤◌, length, None, Some, IfOk, if◌then◌else◌, bytes_eq, codes};
+
+use dl_io::{
+    Failed, FileFault, FileLibrary, GatheringSink, Library, MemoryLibrary, MemorySink, OutSink,
+    SafeLibrary, SafeSink, ShortLibrary, ShortSink, Sink, names_differ, read_whole, write_all,
+};
+use std::alloc::{AllocError, Global};
+use std::cell::Cell;
+use std::fmt::Display;
+use std::io::{self, Write};
+use std::os::fd::AsRawFd;
+use std::rt::Files;
+use std::test::Fail;
+use std::{fs, process};
+
+type NamedFiles = Vec<(String, Vec<u8>)>;
+
+/// Two files, one of them empty.
+const TWO: [(&str, &str); 2] = [("letters", "abc"), ("empty", "")];
+
+/// The same, and another file of the first name.
+const ONE_NAME_TWICE: [(&str, &str); 3] = [("letters", "abc"), ("empty", ""), ("letters", "")];
+
+fn files_of(alloc: Global, texts: &[(&str, &str)]) -> Result<NamedFiles, AllocError> {
+    let mut files = Vec::new(alloc);
+    for (name, text) in texts {
+        let name = String::from_str(alloc, name)?;
+        files.push((name, Vec::from_slice(alloc, text.as_bytes())?))?;
+    }
+    Ok(files)
+}
+
+#[test]
+fn tells_names_apart(rt: HostRuntime) -> Result<(), Fail> {
+    assert!(rt; names_differ(files_of(rt.alloc(), &TWO)?.as_slice()));
+    assert!(rt; !names_differ(files_of(rt.alloc(), &ONE_NAME_TWICE)?.as_slice()));
+    Ok(())
+}
+
+/// Whether a file is read whole, with these bytes.
+fn reads<L: Library>(alloc: Global, files: &mut L, name: &str, bytes: &str) -> bool {
+    match read_whole(alloc, files, name) {
+        Ok(read) => read.as_slice() == bytes.as_bytes(),
+        Err(_) => false,
+    }
+}
+
+/// Whether reading a file fails.
+fn fails_to_read<L: Library>(alloc: Global, files: &mut L, name: &str) -> bool {
+    match read_whole(alloc, files, name) {
+        Ok(_) => false,
+        Err(fault) => fault == FileFault::Failed,
+    }
+}
+
+/// Whether both files are read whole, and one that isn't there as an empty one.
+fn reads_two<L: Library>(alloc: Global, files: &mut L) -> bool {
+    reads(alloc, files, "letters", "abc")
+        && reads(alloc, files, "empty", "")
+        && reads(alloc, files, "absent", "")
+}
+
+#[test]
+fn reads_whole(rt: HostRuntime) -> Result<(), Fail> {
+    let files = files_of(rt.alloc(), &TWO)?;
+    assert!(rt; names_differ(files.as_slice()));
+    assert!(rt; reads_two(rt.alloc(), &mut SafeLibrary::new(files)));
+    Ok(())
+}
+
+#[test]
+fn reads_whole_by_single_bytes(rt: HostRuntime) -> Result<(), Fail> {
+    let files = files_of(rt.alloc(), &TWO)?;
+    assert!(rt; names_differ(files.as_slice()));
+    assert!(rt; reads_two(rt.alloc(), &mut ShortLibrary::new(files)));
+    Ok(())
+}
+
+/// The two files, where the call of this number is to fail.
+fn failing_files(
+    rt: &(impl process::Abort + AllocGlobal),
+    call: u64,
+) -> Result<MemoryLibrary, Fail> {
+    let files = files_of(rt.alloc(), &TWO)?;
+    assert!(rt; names_differ(files.as_slice()));
+    Ok(MemoryLibrary::new(files, Vec::from_slice(rt.alloc(), &[call])?))
+}
+
+// The file takes two reads: one for its bytes, and one that finds the end.
+#[test]
+fn reads_fail_when_they_are_to(rt: HostRuntime) -> Result<(), Fail> {
+    assert!(rt; fails_to_read(rt.alloc(), &mut failing_files(&rt, 0)?, "letters"));
+    assert!(rt; fails_to_read(rt.alloc(), &mut failing_files(&rt, 1)?, "letters"));
+    assert!(rt; reads(rt.alloc(), &mut failing_files(&rt, 2)?, "letters", "abc"));
+    assert!(rt; fails_to_read(rt.alloc(), &mut failing_files(&rt, 2)?, "absent"));
+    Ok(())
+}
+
+/// A library of one file of zeros. Every other name fails.
+#[derive(Drop)]
+struct Zeros {
+    len: usize,
+    faults: u64,
+}
+
+const ZEROS: &str = "zeros";
+
+impl Library for Zeros {
+    ghost told = { λ _. None };
+
+    ghost faults = { λ library name. (if bytes_eq name (codes "zeros") then 0 else library.faults) };
+
+    fn read(&mut self, name: &str, from: u64, buf: &mut [u8]) -> Result<usize, Failed> {
+        if name == ZEROS {
+            return Ok(buf.len().min(self.len.saturating_sub(from as usize)));
+        }
+        self.faults = self.faults.saturating_add(1);
+        Err(Failed)
+    }
+}
+
+// A body that reads another file on the way, as one at 5,000,000 bytes, fails here.
+#[test]
+fn reads_in_many_pieces_and_no_other_file(rt: HostRuntime) -> Result<(), Fail> {
+    let mut files = Zeros {
+        len: 6_000_000,
+        faults: 0,
+    };
+    let zeros = read_whole(rt.alloc(), &mut files, ZEROS)?;
+    assert!(rt; zeros.len() == 6_000_000);
+    assert!(rt; files.faults == 0);
+    assert!(rt; fails_to_read(rt.alloc(), &mut files, "ones"));
+    Ok(())
+}
+
+/// Writes two texts, and answers whether both were written.
+fn writes_two<S: Sink>(sink: &mut S) -> bool {
+    write_all(sink, b"abc").is_ok() && write_all(sink, b"de").is_ok()
+}
+
+/// Whether a sink with so much room keeps these bytes of the two texts.
+fn keeps(alloc: Global, room: usize, kept: &str) -> Result<bool, AllocError> {
+    let mut sink = SafeSink::new(Vec::with_capacity(alloc, room)?);
+    Ok(writes_two(&mut sink) && sink.bytes() == kept.as_bytes())
+}
+
+/// The same of a sink that takes single bytes.
+fn keeps_bytes(alloc: Global, room: usize, kept: &str) -> Result<bool, AllocError> {
+    let mut sink = ShortSink::new(Vec::with_capacity(alloc, room)?);
+    Ok(writes_two(&mut sink) && sink.bytes() == kept.as_bytes())
+}
+
+#[test]
+fn writes_all(rt: HostRuntime) -> Result<(), Fail> {
+    assert!(rt; keeps(rt.alloc(), 0, "")?);
+    assert!(rt; keeps(rt.alloc(), 2, "")?);
+    assert!(rt; keeps(rt.alloc(), 3, "abc")?);
+    assert!(rt; keeps(rt.alloc(), 4, "abc")?);
+    assert!(rt; keeps(rt.alloc(), 5, "abcde")?);
+    assert!(rt; keeps(rt.alloc(), 9, "abcde")?);
+    Ok(())
+}
+
+#[test]
+fn writes_all_by_single_bytes(rt: HostRuntime) -> Result<(), Fail> {
+    assert!(rt; keeps_bytes(rt.alloc(), 0, "")?);
+    assert!(rt; keeps_bytes(rt.alloc(), 2, "ab")?);
+    assert!(rt; keeps_bytes(rt.alloc(), 5, "abcde")?);
+    assert!(rt; keeps_bytes(rt.alloc(), 9, "abcde")?);
+    Ok(())
+}
+
+/// A sink with room for nine bytes, where the call of this number is to fail.
+fn failing_sink(alloc: Global, call: u64) -> Result<MemorySink, AllocError> {
+    let buffer = Vec::with_capacity(alloc, 9)?;
+    Ok(MemorySink::new(buffer, Vec::from_slice(alloc, &[call])?))
+}
+
+/// Whether the two texts are written or not, as is said, and these bytes are kept.
+fn ends(
+    alloc: Global,
+    call: u64,
+    first: bool,
+    second: bool,
+    kept: &str,
+) -> Result<bool, AllocError> {
+    let mut sink = failing_sink(alloc, call)?;
+    Ok(
+        write_all(&mut sink, b"abc").is_ok() == first
+            && write_all(&mut sink, b"de").is_ok() == second
+            && sink.bytes() == kept.as_bytes(),
+    )
+}
+
+#[test]
+fn writes_fail_when_they_are_to(rt: HostRuntime) -> Result<(), Fail> {
+    assert!(rt; ends(rt.alloc(), 0, false, true, "de")?);
+    assert!(rt; ends(rt.alloc(), 1, true, false, "abc")?);
+    assert!(rt; ends(rt.alloc(), 2, true, true, "abcde")?);
+    Ok(())
+}
+
+/// Puts two texts into a sink that gathers up to so many bytes, and answers whether both were taken,
+/// and then whether the rest was handed on.
+fn gathers<S: Sink>(alloc: Global, sink: &mut S, room: usize) -> Result<(bool, bool), AllocError> {
+    let mut buffer = Vec::with_capacity(alloc, room)?;
+    let mut gathering = GatheringSink::new(sink, &mut buffer);
+    let taken = writes_two(&mut gathering);
+    let handed = gathering.finish().is_ok();
+    Ok((taken, handed))
+}
+
+/// Whether the two texts come through, gathered up to so many bytes, in so many writes.
+fn gathers_in(alloc: Global, room: usize, writes: u64) -> Result<bool, AllocError> {
+    let mut sink = failing_sink(alloc, writes)?;
+    let (taken, handed) = gathers(alloc, &mut sink, room)?;
+    Ok(taken && handed && sink.bytes() == "abcde".as_bytes() && write_all(&mut sink, b"f").is_err())
+}
+
+/// Whether they come through up to the write of this number, which fails: these bytes are kept.
+fn gathers_up_to(alloc: Global, room: usize, call: u64, kept: &str) -> Result<bool, AllocError> {
+    let mut sink = failing_sink(alloc, call)?;
+    let (taken, handed) = gathers(alloc, &mut sink, room)?;
+    Ok(!(taken && handed) && sink.bytes() == kept.as_bytes())
+}
+
+#[test]
+fn gathers_what_fits(rt: HostRuntime) -> Result<(), Fail> {
+    // With no room each text is handed on at once, with room for one text one of them is.
+    assert!(rt; gathers_in(rt.alloc(), 0, 2)?);
+    assert!(rt; gathers_in(rt.alloc(), 2, 2)?);
+    assert!(rt; gathers_in(rt.alloc(), 3, 2)?);
+    assert!(rt; gathers_in(rt.alloc(), 5, 1)?);
+    assert!(rt; gathers_in(rt.alloc(), 9, 1)?);
+    Ok(())
+}
+
+#[test]
+fn a_fault_leaves_a_prefix(rt: HostRuntime) -> Result<(), Fail> {
+    assert!(rt; gathers_up_to(rt.alloc(), 0, 1, "abc")?);
+    assert!(rt; gathers_up_to(rt.alloc(), 2, 1, "abc")?);
+    assert!(rt; gathers_up_to(rt.alloc(), 5, 0, "")?);
+    Ok(())
+}
+
+#[test]
+fn reaches_files_of_the_system(rt: HostRuntime) -> Result<(), Fail> {
+    let path = format!(in rt.alloc(); "/tmp/dl_io_{}", process::id(rt.process()))?;
+    fs::write(&rt, path.as_str(), "from a file")?;
+    let read = reads(
+        rt.alloc(),
+        &mut FileLibrary::new(&rt),
+        path.as_str(),
+        "from a file",
+    );
+    fs::remove_file(&rt, path.as_str())?;
+    assert!(rt; read);
+    assert!(rt; reads(rt.alloc(), &mut FileLibrary::new(&rt), "/dev/null", ""));
+    assert!(rt; fails_to_read(rt.alloc(), &mut FileLibrary::new(&rt), path.as_str()));
+    Ok(())
+}
+
+/// Whether a file of the system is read from these offsets on, one after another, with one byte each.
+fn reads_at(files: &mut FileLibrary<'_, HostRuntime>, path: &str, offsets: &[(u64, u8)]) -> bool {
+    let mut byte = [0u8; 1];
+    for (offset, wanted) in offsets {
+        if files.read(path, *offset, &mut byte) != Ok(1) || byte[0] != *wanted {
+            return false;
+        }
+    }
+    true
+}
+
+// Another offset and another name open anew.
+#[test]
+fn goes_on_or_opens_anew(rt: HostRuntime) -> Result<(), Fail> {
+    let one = format!(in rt.alloc(); "/tmp/dl_io_one_{}", process::id(rt.process()))?;
+    let two = format!(in rt.alloc(); "/tmp/dl_io_two_{}", process::id(rt.process()))?;
+    fs::write(&rt, one.as_str(), "abcd")?;
+    fs::write(&rt, two.as_str(), "efgh")?;
+    let mut files = FileLibrary::new(&rt);
+    let first = reads_at(
+        &mut files,
+        one.as_str(),
+        &[(0, b'a'), (1, b'b'), (3, b'd'), (0, b'a')],
+    );
+    let second = reads_at(&mut files, two.as_str(), &[(1, b'f'), (2, b'g')]);
+    let again = reads_at(&mut files, one.as_str(), &[(3, b'd')]);
+    fs::remove_file(&rt, one.as_str())?;
+    fs::remove_file(&rt, two.as_str())?;
+    assert!(rt; first && second && again);
+    Ok(())
+}
+
+// A pipe is read to its end, which takes a read behind the bytes, and can't be sought.
+#[test]
+fn reads_a_pipe(rt: HostRuntime) -> Result<(), Fail> {
+    let (reader, mut writer) = rt.pipe()?;
+    writer.write_all(b"through a pipe")?;
+    drop(writer);
+    let path = format!(in rt.alloc(); "/dev/fd/{}", reader.as_raw_fd())?;
+    assert!(rt;
+        reads(
+            rt.alloc(),
+            &mut FileLibrary::new(&rt),
+            path.as_str(),
+            "through a pipe"
+        )
+    );
+    Ok(())
+}
+
+/// An output that takes at most three bytes a call, notes the last ones, and fails at the call of this number.
+#[derive(Drop)]
+struct Output {
+    taken: Cell<[u8; 3]>,
+    calls: Cell<u64>,
+    fails: u64,
+}
+
+impl Print for Output {
+    fn print<D: Display + Drop>(&self, _value: D) -> io::Result<()> {
+        Ok(())
+    }
+
+    fn println<D: Display + Drop>(&self, _value: D) -> io::Result<()> {
+        Ok(())
+    }
+
+    fn write_all(&self, _bytes: &[u8]) -> io::Result<()> {
+        Ok(())
+    }
+
+    fn write_some(&self, bytes: &[u8]) -> io::Result<usize> {
+        let call = self.calls.get();
+        self.calls.set(call.saturating_add(1));
+        if call == self.fails {
+            return Ok(0);
+        }
+        let n = bytes.len().min(3);
+        let mut taken = [0u8; 3];
+        taken[..n].copy_from_slice(&bytes[..n]);
+        self.taken.set(taken);
+        Ok(n)
+    }
+}
+
+#[test]
+fn hands_bytes_to_the_output(rt: HostRuntime) -> Result<(), Fail> {
+    let output = Output {
+        taken: Cell::new([0; 3]),
+        calls: Cell::new(0),
+        fails: 2,
+    };
+    let mut sink = OutSink::new(&output);
+    assert!(rt; sink.write(b"abcd") == Ok(3));
+    assert!(rt; output.taken.get() == *b"abc");
+    assert!(rt; write_all(&mut sink, b"de").is_ok());
+    assert!(rt; output.taken.get() == *b"de\0");
+    // A call that takes nothing of a piece failed, and the next one goes on.
+    assert!(rt; write_all(&mut sink, b"f").is_err());
+    assert!(rt; write_all(&mut sink, b"g").is_ok());
+    Ok(())
+}
+
+#[test]
+fn reaches_the_standard_output(rt: HostRuntime) -> Result<(), Fail> {
+    assert!(rt; write_all(&mut OutSink::new(&rt), b"written through a sink\n").is_ok());
+    Ok(())
+}
