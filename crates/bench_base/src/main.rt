@@ -1,6 +1,7 @@
 // Runs a base crate on an input that it makes, and prints counts. `bench/` times it from outside.
 #![tactic(auto)]
 
+mod answer;
 mod lex;
 mod reach;
 
@@ -15,6 +16,7 @@ fn main(rt: HostRuntime) -> io::Result<ExitCode> {
     let done = match words.first() {
         Some(word) if word.as_str() == "reach" => reach::run(&rt, &words)?,
         Some(word) if word.as_str() == "lex" => lex::run(&rt, &words)?,
+        Some(word) if word.as_str() == "answer" => answer::run(&rt, &words),
         _ => false,
     };
     if done {
@@ -22,5 +24,6 @@ fn main(rt: HostRuntime) -> io::Result<ExitCode> {
     }
     eprintln!(rt; "bench_base {}", reach::WORDS)?;
     eprintln!(rt; "bench_base {}", lex::WORDS)?;
+    eprintln!(rt; "bench_base {}", answer::WORDS)?;
     Ok(ExitCode::FAILURE)
 }

@@ -1,1 +1,581 @@
-// placeholder
+// The commands over files in memory: worked examples, reads and writes that fail, and want of memory.
+ghost use Rattle.std.specs.Prelude.{◌≤◌, ◌∷◌, [], length, None, if◌then◌else◌, codes, bytes_eq};
+ghost use Rattle.std.specs.List.{list_any};
+
+use dl_io::{
+    Failed, Library, MemoryLibrary, MemorySink, SafeLibrary, SafeSink, ShortLibrary, ShortSink,
+    Sink, names_differ,
+};
+use dl_run::{Status, quest};
+use std::alloc::{AllocError, Global};
+use std::test::Fail;
+
+type NamedFiles = Vec<(String, Vec<u8>)>;
+
+/// How many bytes a sink has room for.
+const ROOM: usize = 1 << 20;
+
+/// The number of a call that doesn't come.
+const NEVER: u64 = u64::MAX;
+
+const USAGE: &str = "usage: quest answer ONTOLOGY DATA QUERY [--limit N]
+       quest run ONTOLOGY DATA STREAMS [--shards N]
+       quest gen NUMBER SIZE
+";
+
+/// A worked example: the words, the files with their names, and how it ends.
+#[derive(Clone, Copy)]
+struct Example {
+    words: &'static [&'static str],
+    files: &'static [(&'static str, &'static str)],
+    status: Status,
+    output: &'static str,
+}
+
+/// What stands behind an individual in the fact that it is in the class `A`.
+const TYPE_A: &str = "> <http://www.w3.org/1999/02/22-rdf-syntax-ns#type> <A> .\n";
+
+/// The words of `answer`.
+const ANSWER: &[&str] = &["answer", "ontology.ofn", "data.nt", "query.q"];
+
+const SUBCLASS: Example = Example {
+    words: ANSWER,
+    files: &[
+        ("ontology.ofn", "Ontology(SubClassOf(<A> <B>))"),
+        (
+            "data.nt",
+            "<a> <http://www.w3.org/1999/02/22-rdf-syntax-ns#type> <A> .\n",
+        ),
+        ("query.q", "q(?x) :- <B>(?x)"),
+    ],
+    status: Status::Done,
+    output: "facts 1 skipped 0\nanswers 1\n(<a>)\n",
+};
+
+const SUBCLASS_CYCLE: Example = Example {
+    words: ANSWER,
+    files: &[
+        (
+            "ontology.ofn",
+            "Ontology(SubClassOf(<A> <B>) SubClassOf(<B> <A>))",
+        ),
+        (
+            "data.nt",
+            "<b> <http://www.w3.org/1999/02/22-rdf-syntax-ns#type> <A> .
+<a> <http://www.w3.org/1999/02/22-rdf-syntax-ns#type> <B> .
+<a> <http://www.w3.org/1999/02/22-rdf-syntax-ns#type> <A> .
+",
+        ),
+        ("query.q", "q(?x) :- <A>(?x)"),
+    ],
+    status: Status::Done,
+    output: "facts 3 skipped 0\nanswers 2\n(<a>)\n(<b>)\n",
+};
+
+const NOTHING_LOADED: Example = Example {
+    words: ANSWER,
+    files: &[
+        ("ontology.ofn", "Ontology()"),
+        ("data.nt", ""),
+        ("query.q", "q(?x) :- <A>(?x)"),
+    ],
+    status: Status::Done,
+    output: "facts 0 skipped 0\nanswers 0\n",
+};
+
+const DISJOINT: Example = Example {
+    words: ANSWER,
+    files: &[
+        ("ontology.ofn", "Ontology(DisjointClasses(<A> <B>))"),
+        ("data.nt", ""),
+        ("query.q", "q(?x) :- <A>(?x)"),
+    ],
+    status: Status::Refused,
+    output: "refused: not built\n",
+};
+
+const NO_WORDS: Example = Example {
+    words: &[],
+    files: &[],
+    status: Status::Usage,
+    output: USAGE,
+};
+
+const LIMIT_ZERO: Example = Example {
+    words: &["answer", "o", "d", "q", "--limit", "0"],
+    files: &[],
+    status: Status::Usage,
+    output: USAGE,
+};
+
+const GEN_WITHOUT_SIZE: Example = Example {
+    words: &["gen", "1"],
+    files: &[],
+    status: Status::Usage,
+    output: USAGE,
+};
+
+const DATA_FILE_MISSING: &[(&str, &str)] = &[
+    ("ontology.ofn", "Ontology(SubClassOf(<A> <B>))"),
+    ("query.q", "q(?x) :- <B>(?x)"),
+];
+
+/// The same beside an ontology of a form that isn't read: the files are read whole before any is tested.
+const DATA_MISSING_BESIDE_NOT_BUILT: &[(&str, &str)] = &[
+    ("ontology.ofn", "Ontology(DisjointClasses(<A> <B>))"),
+    ("query.q", "q(?x) :- <B>(?x)"),
+];
+
+/// The same beside facts of a form that isn't read.
+const QUERY_MISSING_BESIDE_NOT_BUILT: &[(&str, &str)] = &[
+    ("ontology.ofn", "Ontology(SubClassOf(<A> <B>))"),
+    ("data.nt", "no triple\n"),
+];
+
+/// Files with their names.
+fn files_of(alloc: Global, texts: &[(&str, &str)]) -> Result<NamedFiles, AllocError> {
+    let mut files = Vec::new(alloc);
+    for (name, text) in texts {
+        let name = String::from_str(alloc, name)?;
+        files.push((name, Vec::from_slice(alloc, text.as_bytes())?))?;
+    }
+    Ok(files)
+}
+
+fn words_of(alloc: Global, texts: &[&str]) -> Result<Vec<String>, AllocError> {
+    let mut words = Vec::new(alloc);
+    for text in texts {
+        words.push(String::from_str(alloc, text)?)?;
+    }
+    Ok(words)
+}
+
+/// A sink with room for an output.
+fn new_sink(alloc: Global) -> Result<SafeSink, AllocError> {
+    Ok(SafeSink::new(Vec::with_capacity(alloc, ROOM)?))
+}
+
+/// Whether the program ends with this status for these words, and writes this output.
+fn ends<L: Library>(
+    alloc: Global,
+    files: &mut L,
+    words: &[&str],
+    status: Status,
+    output: &str,
+) -> Result<bool, AllocError> {
+    let words = words_of(alloc, words)?;
+    let mut sink = new_sink(alloc)?;
+    let ended = quest(alloc, words.as_slice(), files, &mut sink);
+    Ok(ended == status && sink.bytes() == output.as_bytes())
+}
+
+/// Whether it does over files in memory. No two have one name.
+fn ends_over(
+    alloc: Global,
+    texts: &[(&str, &str)],
+    words: &[&str],
+    status: Status,
+    output: &str,
+) -> Result<bool, AllocError> {
+    let files = files_of(alloc, texts)?;
+    if !names_differ(files.as_slice()) {
+        return Ok(false);
+    }
+    ends(alloc, &mut SafeLibrary::new(files), words, status, output)
+}
+
+/// The same where files are read and texts are written one byte at a time.
+fn ends_by_bytes(
+    alloc: Global,
+    texts: &[(&str, &str)],
+    words: &[&str],
+    status: Status,
+    output: &str,
+) -> Result<bool, AllocError> {
+    let files = files_of(alloc, texts)?;
+    if !names_differ(files.as_slice()) {
+        return Ok(false);
+    }
+    let words = words_of(alloc, words)?;
+    let mut sink = ShortSink::new(Vec::with_capacity(alloc, ROOM)?);
+    let mut files = ShortLibrary::new(files);
+    let ended = quest(alloc, words.as_slice(), &mut files, &mut sink);
+    Ok(ended == status && sink.bytes() == output.as_bytes())
+}
+
+const EXAMPLES: &[&Example] = &[
+    &SUBCLASS,
+    &SUBCLASS_CYCLE,
+    &NOTHING_LOADED,
+    &DISJOINT,
+    &NO_WORDS,
+    &LIMIT_ZERO,
+    &GEN_WITHOUT_SIZE,
+];
+
+/// Whether each example ends as it says.
+fn all_end(alloc: Global, rows: &[&Example]) -> Result<bool, AllocError> {
+    for row in rows {
+        if !ends_over(alloc, row.files, row.words, row.status, row.output)? {
+            return Ok(false);
+        }
+    }
+    Ok(true)
+}
+
+fn all_end_by_bytes(alloc: Global, rows: &[&Example]) -> Result<bool, AllocError> {
+    for row in rows {
+        if !ends_by_bytes(alloc, row.files, row.words, row.status, row.output)? {
+            return Ok(false);
+        }
+    }
+    Ok(true)
+}
+
+#[test]
+fn worked_examples(rt: HostRuntime) -> Result<(), Fail> {
+    assert!(rt; all_end(rt.alloc(), EXAMPLES)?);
+    Ok(())
+}
+
+#[test]
+fn worked_examples_by_single_bytes(rt: HostRuntime) -> Result<(), Fail> {
+    assert!(rt; all_end_by_bytes(rt.alloc(), EXAMPLES)?);
+    Ok(())
+}
+
+/// Reads as its library does, and notes the name of each file that is begun.
+#[derive(Drop)]
+struct Noting {
+    files: SafeLibrary,
+    begun: String,
+}
+
+impl Library for Noting {
+    ghost told = { λ _. None };
+
+    ghost faults = { λ _ _. 0 };
+
+    fn read(&mut self, name: &str, from: u64, buf: &mut [u8]) -> Result<usize, Failed> {
+        if from == 0 {
+            // A name that isn't noted for want of memory is missed below.
+            let _ = self.begun.push_str(name);
+            let _ = self.begun.push_str(" ");
+        }
+        self.files.read(name, from, buf)
+    }
+}
+
+fn new_noting(alloc: Global, texts: &[(&str, &str)]) -> Result<Option<Noting>, AllocError> {
+    let files = files_of(alloc, texts)?;
+    if !names_differ(files.as_slice()) {
+        return Ok(None);
+    }
+    Ok(Some(Noting {
+        files: SafeLibrary::new(files),
+        begun: String::new(alloc),
+    }))
+}
+
+/// Whether the files of an example are begun in this order.
+fn begins(alloc: Global, example: &Example, names: &str) -> Result<bool, AllocError> {
+    let Some(mut files) = new_noting(alloc, example.files)? else {
+        return Ok(false);
+    };
+    let ended = ends(
+        alloc,
+        &mut files,
+        example.words,
+        example.status,
+        example.output,
+    )?;
+    Ok(ended && files.begun.as_str() == names)
+}
+
+#[test]
+fn files_are_read_once_in_the_order_of_the_words(rt: HostRuntime) -> Result<(), Fail> {
+    assert!(rt; begins(rt.alloc(), &SUBCLASS, "ontology.ofn data.nt query.q ")?);
+    Ok(())
+}
+
+/// The facts that so many individuals are in the class `A`. The numbers have five digits each, so
+/// that their order is that of their texts.
+fn facts_of(alloc: Global, count: u32) -> Result<String, AllocError> {
+    let mut facts = String::new(alloc);
+    for number in 10_000..10_000 + count.min(90_000) {
+        facts.push_str("<")?;
+        facts.push_str(number.to_string(alloc)?.as_str())?;
+        facts.push_str(TYPE_A)?;
+    }
+    Ok(facts)
+}
+
+/// The output that names 10,000 of them.
+fn answers_of(alloc: Global) -> Result<String, AllocError> {
+    let mut output = String::from_str(alloc, "facts 10000 skipped 0\nanswers 10000\n")?;
+    for number in 10_000..20_000u32 {
+        output.push_str("(<")?;
+        output.push_str(number.to_string(alloc)?.as_str())?;
+        output.push_str(">)\n")?;
+    }
+    Ok(output)
+}
+
+/// Whether so many members of `A` end with this status and output.
+fn members_end(
+    alloc: Global,
+    count: u32,
+    status: Status,
+    output: &str,
+) -> Result<bool, AllocError> {
+    let facts = facts_of(alloc, count)?;
+    let files = [
+        ("ontology.ofn", "Ontology()"),
+        ("data.nt", facts.as_str()),
+        ("query.q", "q(?x) :- <A>(?x)"),
+    ];
+    ends_over(alloc, &files, ANSWER, status, output)
+}
+
+#[test]
+fn as_many_answers_as_the_limit(rt: HostRuntime) -> Result<(), Fail> {
+    let all = answers_of(rt.alloc())?;
+    assert!(rt; members_end(rt.alloc(), 10_000, Status::Done, all.as_str())?);
+    let over = "refused: more than 10000 answers\n";
+    assert!(rt; members_end(rt.alloc(), 10_001, Status::Refused, over)?);
+    Ok(())
+}
+
+/// One fact, so many times over, as a library that has this one file beside two small ones, and fails
+/// for every other name.
+#[derive(Drop)]
+struct Repeated {
+    line: &'static str,
+    len: u64,
+    faults: u64,
+}
+
+/// Copies what stands in repeated lines from an offset on, up to so many bytes in all.
+fn copy_lines(line: &str, len: u64, from: u64, buf: &mut [u8]) -> usize
+    ensures { result ≤ length buf.new }
+{
+    let mut n = 0usize;
+    if line.is_empty() {
+        return 0;
+    }
+    for byte in buf.iter_mut() {
+        let at = from.saturating_add(n as u64);
+        if at >= len {
+            break;
+        }
+        *byte = line.as_bytes()[(at % line.len() as u64) as usize];
+        n += 1;
+    }
+    n
+}
+
+impl Library for Repeated {
+    ghost told = { λ _. None };
+
+    ghost faults = { λ library name.
+        (if list_any (bytes_eq name)
+        (codes "ontology.ofn" ∷ codes "data.nt" ∷ codes "query.q" ∷ [])
+        then 0 else library.faults) };
+
+    fn read(&mut self, name: &str, from: u64, buf: &mut [u8]) -> Result<usize, Failed> {
+        let (line, len) = match name {
+            "ontology.ofn" => ("Ontology()", 10),
+            "data.nt" => (self.line, self.len),
+            "query.q" => ("q(?x) :- <A>(?x)", 16),
+            _ => {
+                self.faults = self.faults.saturating_add(1);
+                return Err(Failed);
+            }
+        };
+        Ok(copy_lines(line, len, from, buf))
+    }
+}
+
+// A body that reads another file on the way, as one at 5,000,000 bytes, fails here.
+#[test]
+fn no_other_file_is_read(rt: HostRuntime) -> Result<(), Fail> {
+    let line = "<a> <http://www.w3.org/1999/02/22-rdf-syntax-ns#type> <A> .\n";
+    let mut files = Repeated {
+        line,
+        len: 100_000 * line.len() as u64,
+        faults: 0,
+    };
+    let output = "facts 1 skipped 0\nanswers 1\n(<a>)\n";
+    assert!(rt; ends(rt.alloc(), &mut files, ANSWER, Status::Done, output)?);
+    assert!(rt; files.faults == 0);
+    Ok(())
+}
+
+/// Takes at most so many bytes a call, but at least one, and fails as its sink does.
+#[derive(Drop)]
+struct Pieces {
+    sink: MemorySink,
+    most: usize,
+}
+
+impl Sink for Pieces {
+    ghost got = { λ _. None };
+
+    ghost faults = { λ pieces. pieces.sink.faults };
+
+    fn write(&mut self, piece: &[u8]) -> Result<usize, Failed> {
+        let n = piece.len().min(self.most.max(1));
+        self.sink.write(&piece[..n])
+    }
+}
+
+/// Files in memory, where the read of this number fails.
+fn failing_files(
+    alloc: Global,
+    texts: &[(&str, &str)],
+    read: u64,
+) -> Result<Option<MemoryLibrary>, AllocError> {
+    let files = files_of(alloc, texts)?;
+    if !names_differ(files.as_slice()) {
+        return Ok(None);
+    }
+    Ok(Some(MemoryLibrary::new(files, Vec::from_slice(alloc, &[read])?)))
+}
+
+/// A sink that takes at most so many bytes a call, where the write of this number fails.
+fn failing_sink(alloc: Global, write: u64, most: usize) -> Result<Pieces, AllocError> {
+    let buffer = Vec::with_capacity(alloc, ROOM)?;
+    let sink = MemorySink::new(buffer, Vec::from_slice(alloc, &[write])?);
+    Ok(Pieces { sink, most })
+}
+
+/// Whether the program ends with this status and text where the read of this number fails.
+fn read_ends(
+    alloc: Global,
+    texts: &[(&str, &str)],
+    read: u64,
+    status: Status,
+    text: &str,
+) -> Result<bool, AllocError> {
+    match failing_files(alloc, texts, read)? {
+        Some(mut files) => ends(alloc, &mut files, ANSWER, status, text),
+        None => Ok(false),
+    }
+}
+
+/// The number of reads up to the first run that none fails: each one before ends as a read fault.
+fn failing_reads(alloc: Global, example: &Example) -> Result<Option<u64>, AllocError> {
+    for read in 0..NEVER {
+        if read_ends(alloc, example.files, read, example.status, example.output)? {
+            return Ok(Some(read));
+        }
+        if !read_ends(
+            alloc,
+            example.files,
+            read,
+            Status::ReadFault,
+            "read fault\n",
+        )? {
+            return Ok(None);
+        }
+    }
+    Ok(None)
+}
+
+#[test]
+fn each_failing_read_is_a_read_fault(rt: HostRuntime) -> Result<(), Fail> {
+    // Each of the three files is read twice: its bytes, and its end.
+    assert!(rt; failing_reads(rt.alloc(), &SUBCLASS)? == Some(6));
+    Ok(())
+}
+
+/// Whether a file that is missing is a read fault.
+fn misses(alloc: Global, texts: &[(&str, &str)]) -> Result<bool, AllocError> {
+    read_ends(alloc, texts, NEVER, Status::ReadFault, "read fault\n")
+}
+
+#[test]
+fn a_missing_file_is_a_read_fault(rt: HostRuntime) -> Result<(), Fail> {
+    assert!(rt; misses(rt.alloc(), DATA_FILE_MISSING)?);
+    assert!(rt; misses(rt.alloc(), DATA_MISSING_BESIDE_NOT_BUILT)?);
+    assert!(rt; misses(rt.alloc(), QUERY_MISSING_BESIDE_NOT_BUILT)?);
+    Ok(())
+}
+
+/// How a run ends where the write of this number fails: true where it is done with the whole output,
+/// false where it is a write fault with a prefix of it, and an empty one for the first write.
+fn write_ends(alloc: Global, write: u64, most: usize) -> Result<Option<bool>, AllocError> {
+    let Some(mut files) = failing_files(alloc, SUBCLASS.files, NEVER)? else {
+        return Ok(None);
+    };
+    let words = words_of(alloc, SUBCLASS.words)?;
+    let mut pieces = failing_sink(alloc, write, most)?;
+    let status = quest(alloc, words.as_slice(), &mut files, &mut pieces);
+    let (whole, written) = (SUBCLASS.output.as_bytes(), pieces.sink.bytes());
+    if status == Status::Done && written == whole {
+        return Ok(Some(true));
+    }
+    let is_part = whole.starts_with(written) && (write > 0 || written.is_empty());
+    if status == Status::WriteFault && is_part {
+        return Ok(Some(false));
+    }
+    Ok(None)
+}
+
+/// The number of writes up to the first run that none fails: each one before ends as a write fault.
+fn failing_writes(alloc: Global, most: usize) -> Result<Option<u64>, AllocError> {
+    for write in 0..NEVER {
+        match write_ends(alloc, write, most)? {
+            Some(true) => return Ok(Some(write)),
+            Some(false) => {}
+            None => return Ok(None),
+        }
+    }
+    Ok(None)
+}
+
+#[test]
+fn each_failing_write_is_a_write_fault(rt: HostRuntime) -> Result<(), Fail> {
+    // Gathered, the output is one write, and 34 of single bytes.
+    assert!(rt; failing_writes(rt.alloc(), ROOM)? == Some(1));
+    assert!(rt; failing_writes(rt.alloc(), 1)? == Some(34));
+    Ok(())
+}
+
+/// What one run writes for an example: its output, or that there was no memory; None where it is neither.
+fn output_of(alloc: Global, example: &Example) -> Result<Option<&'static str>, AllocError> {
+    let files = files_of(alloc, example.files)?;
+    if !names_differ(files.as_slice()) {
+        return Ok(None);
+    }
+    let words = words_of(alloc, example.words)?;
+    let mut sink = new_sink(alloc)?;
+    let status = quest(
+        alloc,
+        words.as_slice(),
+        &mut SafeLibrary::new(files),
+        &mut sink,
+    );
+    let output = match status {
+        Status::NoMemory => "no memory\n",
+        _ => example.output,
+    };
+    let is_so = status == Status::NoMemory || status == example.status;
+    Ok(if is_so && sink.bytes() == output.as_bytes() {
+        Some(output)
+    } else {
+        None
+    })
+}
+
+// With ample memory both are done, and with one growth refused, as by `rt try --test --fail-alloc N`, each ends well or says so.
+// What is printed shows how they ended.
+#[test]
+fn want_of_memory(rt: HostRuntime) -> Result<(), Fail> {
+    let first = output_of(rt.alloc(), &SUBCLASS)?;
+    let second = output_of(rt.alloc(), &SUBCLASS_CYCLE)?;
+    assert!(rt; first.is_some() && second.is_some());
+    print!(rt; "{}", first.unwrap_or(""))?;
+    print!(rt; "{}", second.unwrap_or(""))?;
+    Ok(())
+}
