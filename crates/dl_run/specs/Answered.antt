@@ -23,7 +23,8 @@ status_of (Err NoMemory) = status.NoMemory
 
 -- the text of answers
 abbrev pub text_of_answers : Answers → List ℕ
-text_of_answers answers = facts_line answers.facts answers.skipped ++ answers_text answers.names (singles answers.found.items)
+text_of_answers answers =
+    facts_line answers.facts answers.skipped ++ answers_text answers.names (singles answers.found.items)
 
 -- the text of answers, or of what stands in their place
 abbrev pub text_of : Result Answers Stop → List ℕ
@@ -37,6 +38,7 @@ abbrev pub RepliesTo : Load → Query → ℕ → Result Answers Stop → Type 0
 RepliesTo load asked limit (Ok answers) =
     IsReply load.axioms load.facts load.nothing asked limit (found (singles answers.found.items))
     × (answers.names ≡ load.names) × (answers.facts ≡ length load.facts) × (answers.skipped ≡ load.skipped)
-RepliesTo load asked limit (Err (Refused refusal)) = (refusal ≡ TooMany limit) × IsReply load.axioms load.facts load.nothing asked limit too_many
+RepliesTo load asked limit (Err (Refused refusal)) =
+    (refusal ≡ TooMany limit) × IsReply load.axioms load.facts load.nothing asked limit too_many
 RepliesTo load asked limit (Err ReadFault) = ⊥
 RepliesTo load asked limit (Err NoMemory) = Unit {0}

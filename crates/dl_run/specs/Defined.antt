@@ -20,7 +20,8 @@ IsNoInput ontology facts query = (load : Load) (asked : Query) → AreInput onto
 pub data IsRefused (ontology facts query : List ℕ) (limit : ℕ) : Refusal → Type 0 where
   not_built : IsNoInput ontology facts query → IsRefused ontology facts query limit NotBuilt
   over_limit : {load : Load} {asked : Query} → AreInput ontology facts query load asked
-      → IsReply load.axioms load.facts load.nothing asked limit too_many → IsRefused ontology facts query limit (TooMany limit)
+      → IsReply load.axioms load.facts load.nothing asked limit too_many
+      → IsRefused ontology facts query limit (TooMany limit)
 
 -- what `answer` prints for the bytes of its three files: why it refuses them, or the answers
 pub data AnswerPrints (ontology facts query : List ℕ) (limit : ℕ) : Status → List ℕ → Type 0 where

@@ -9,7 +9,8 @@ line text = text ++ 10 ∷ []
 abbrev pub usage_text : List ℕ
 usage_text =
     line (codes "usage: quest answer ONTOLOGY DATA QUERY [--limit N]")
-    ++ (line (codes "       quest run ONTOLOGY DATA STREAMS [--shards N]") ++ line (codes "       quest gen NUMBER SIZE"))
+    ++ (line (codes "       quest run ONTOLOGY DATA STREAMS [--shards N]")
+    ++ line (codes "       quest gen NUMBER SIZE"))
 
 -- a file could not be read
 abbrev pub read_fault_text : List ℕ

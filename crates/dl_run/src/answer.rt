@@ -18,7 +18,8 @@ pub(crate) struct Asked {
     ghost facts_named: { All (λ f. (f.0 < length names) × (f.1 < length names)) facts.items },
 }
 
-/// Answers as numbers, with their names, how many facts there are and how many triples were skipped: all that is printed of them.
+/// Answers as numbers, with their names, how many facts there are and how many triples were skipped:
+/// all that is printed of them.
 #[derive(Drop)]
 pub(crate) struct Answers {
     pub names: Names,

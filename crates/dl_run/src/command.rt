@@ -111,10 +111,12 @@ fn write_text<S: Sink>(sink: &mut S, status: Status, text: &str) -> Status
     }
 }
 
-/// The command `answer`: writes the certain answers to a query over an ontology and facts, or why there are none, and says how that
-/// ended. The three names are those of files, which are read whole, in the order of the words, before any is tested for its form.
-/// `limit` is the most answers that are written. `Usage` never comes, and `NoMemory` may come at any time. Where the library doesn't
-/// tell its files, nothing is said of the texts of `Done` and `Refused`. `WriteFault` overrides every other status.
+/// The command `answer`: writes the certain answers to a query over an ontology and facts, or why
+/// there are none, and says how that ended. The three names are those of files, which are read whole,
+/// in the order of the words, before any is tested for its form. `limit` is the most answers that are
+/// written. `Usage` never comes, and `NoMemory` may come at any time. Where the library doesn't tell
+/// its files, nothing is said of the texts of `Done` and `Refused`. `WriteFault` overrides every other
+/// status.
 pub fn answer_command<L: Library, S: Sink>(
     alloc: Global,
     files: &mut L,
@@ -150,9 +152,9 @@ pub fn answer_command<L: Library, S: Sink>(
     write_output(sink, &mut gathered, &output)
 }
 
-/// The program: the words after its name, the files and the output. It answers `Usage` exactly where the words have no written form,
-/// and then takes no memory; the text of the written forms is written. Where they have one, it ends as that command does.
-/// `WriteFault` overrides every other status.
+/// The program: the words after its name, the files and the output. It answers `Usage` exactly where
+/// the words have no written form, and then takes no memory; the text of the written forms is written.
+/// Where they have one, it ends as that command does. `WriteFault` overrides every other status.
 pub fn quest<L: Library, S: Sink>(
     alloc: Global,
     words: &[String],

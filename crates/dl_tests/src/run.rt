@@ -568,8 +568,8 @@ fn output_of(alloc: Global, example: &Example) -> Result<Option<&'static str>, A
     })
 }
 
-// With ample memory both are done, and with one growth refused, as by `rt try --test --fail-alloc N`, each ends well or says so.
-// What is printed shows how they ended.
+// With ample memory both are done, and with one growth refused, as by `rt try --test --fail-alloc N`,
+// each ends well or says so. What is printed shows how they ended.
 #[test]
 fn want_of_memory(rt: HostRuntime) -> Result<(), Fail> {
     let first = output_of(rt.alloc(), &SUBCLASS)?;
