@@ -13,8 +13,18 @@ def build(crate, words):
     return folder / "out" / crate
 
 
+class Measure:
+    """The seconds that a run took, those of the processor, and the most memory that it had, in bytes."""
+
+    def __init__(self, seconds, processor, memory):
+        self.seconds, self.processor, self.memory = seconds, processor, memory
+
+    def __str__(self):
+        return f"{self.seconds:.2f} s, {self.processor:.2f} s of the processor, {self.memory / 1e6:.0f} MB of memory"
+
+
 def run(words, folder, output=os.devnull):
-    """The seconds that a run took, and the most memory that it had, in bytes. Less than this script itself has is not told apart."""
+    """Runs a program once. Less memory than this script itself has is not told apart."""
     with open(output, "wb") as out:
         start = time.perf_counter()
         child = subprocess.Popen(words, cwd=folder, stdin=subprocess.DEVNULL, stdout=out)
@@ -23,13 +33,13 @@ def run(words, folder, output=os.devnull):
     child.returncode = os.waitstatus_to_exitcode(status)
     if child.returncode != 0:
         sys.exit(f"{words[0]} ended with status {child.returncode}")
-    return seconds, usage.ru_maxrss * 1024
+    return Measure(seconds, usage.ru_utime + usage.ru_stime, usage.ru_maxrss * 1024)
 
 
 def best(words, folder=TOP, output=os.devnull):
-    """The best time and the most memory of some runs."""
+    """The best times and the most memory of some runs."""
     runs = [run(words, folder, output) for _ in range(RUNS)]
-    return min(seconds for seconds, _ in runs), max(memory for _, memory in runs)
+    return Measure(min(r.seconds for r in runs), min(r.processor for r in runs), max(r.memory for r in runs))
 
 
 def peer(name):
@@ -38,7 +48,3 @@ def peer(name):
     if not found:
         print(f"{name}: not installed, so not compared")
     return found
-
-
-def told(seconds, memory):
-    return f"{seconds:.2f} s, {memory / 1e6:.0f} MB of memory"
