@@ -359,19 +359,24 @@ struct Repeated {
 fn copy_lines(line: &str, len: u64, from: u64, buf: &mut [u8]) -> usize
     ensures { result ≤ length buf.new }
 {
-    let mut n = 0usize;
+    let n = len.saturating_sub(from).min(buf.len() as u64) as usize;
+    fill(line, from, &mut buf[..n]);
+    n
+}
+
+/// Fills a buffer with repeated lines from an offset on.
+fn fill(line: &str, from: u64, buf: &mut [u8]) {
+    for (i, byte) in buf.iter_mut().enumerate() {
+        *byte = byte_of(line.as_bytes(), from.saturating_add(i as u64));
+    }
+}
+
+/// The byte of repeated lines at an offset.
+fn byte_of(line: &[u8], offset: u64) -> u8 {
     if line.is_empty() {
         return 0;
     }
-    for byte in buf.iter_mut() {
-        let at = from.saturating_add(n as u64);
-        if at >= len {
-            break;
-        }
-        *byte = line.as_bytes()[(at % line.len() as u64) as usize];
-        n += 1;
-    }
-    n
+    line[(offset % line.len() as u64) as usize]
 }
 
 impl Library for Repeated {
