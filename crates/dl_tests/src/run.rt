@@ -6,7 +6,7 @@ use dl_io::{
     Failed, Library, MemoryLibrary, MemorySink, SafeLibrary, SafeSink, ShortLibrary, ShortSink,
     Sink, names_differ,
 };
-use dl_run::{Status, quest};
+use dl_run::{Status, answer_command, quest, without_memory};
 use std::alloc::{AllocError, Global};
 use std::test::Fail;
 
@@ -343,6 +343,41 @@ fn as_many_answers_as_the_limit(rt: HostRuntime) -> Result<(), Fail> {
     assert!(rt; members_end(rt.alloc(), 10_000, Status::Done, all.as_str())?);
     let over = "refused: more than 10000 answers\n";
     assert!(rt; members_end(rt.alloc(), 10_001, Status::Refused, over)?);
+    Ok(())
+}
+
+/// Whether the command ends with this status and output, with this limit, for two members of `A`.
+fn two_members_end(
+    alloc: Global,
+    limit: u64,
+    status: Status,
+    output: &str,
+) -> Result<bool, AllocError> {
+    let files = files_of(alloc, SUBCLASS_CYCLE.files)?;
+    if !names_differ(files.as_slice()) {
+        return Ok(false);
+    }
+    let mut files = SafeLibrary::new(files);
+    let mut sink = new_sink(alloc)?;
+    let (ontology, facts, query) = ("ontology.ofn", "data.nt", "query.q");
+    let ended = answer_command(alloc, &mut files, &mut sink, ontology, facts, query, limit);
+    Ok(ended == status && sink.bytes() == output.as_bytes())
+}
+
+#[test]
+fn another_limit(rt: HostRuntime) -> Result<(), Fail> {
+    assert!(rt; two_members_end(rt.alloc(), 2, Status::Done, SUBCLASS_CYCLE.output)?);
+    let over = "refused: more than 1 answers\n";
+    assert!(rt; two_members_end(rt.alloc(), 1, Status::Refused, over)?);
+    Ok(())
+}
+
+#[test]
+fn no_memory_for_the_words(rt: HostRuntime) -> Result<(), Fail> {
+    let mut sink = new_sink(rt.alloc())?;
+    let status = without_memory(&mut sink);
+    assert!(rt; status == Status::NoMemory && status.code() == 5);
+    assert!(rt; sink.bytes() == "no memory\n".as_bytes());
     Ok(())
 }
 
