@@ -8,9 +8,12 @@ pub const WORDS: &str = "answer ONTOLOGY DATA QUERY LIMIT";
 
 /// Runs the command with the limit of the words. False where they say nothing, or it isn't done.
 pub fn run<R: AllocGlobal + Files + Print>(rt: &R, words: &[String]) -> bool {
-    let (Some(ontology), Some(facts), Some(query), Some(limit)) =
-        (words.get(1), words.get(2), words.get(3), words.get(4))
-    else {
+    let (Some(ontology), Some(facts), Some(query), Some(limit)) = (
+        words.get(1),
+        words.get(2),
+        words.get(3),
+        words.get(4),
+    ) else {
         return false;
     };
     let Ok(limit) = limit.as_str().parse::<u64>() else {
