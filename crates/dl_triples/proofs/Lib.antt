@@ -1,0 +1,12 @@
+pub mod RunLemmas
+pub mod LineCut
+pub mod SpellingLemmas
+pub mod SpelledLemmas
+pub mod TermLemmas
+pub mod DotLemmas
+pub mod FormLemmas
+pub mod AddLemmas
+pub mod TripleLemmas
+pub mod TextLemmas
+pub mod ValueLemmas
+pub mod PlaceLemmas

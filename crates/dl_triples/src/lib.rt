@@ -1,0 +1,14 @@
+// The reader of facts in N-Triples: each triple is skipped, has no effect, or is a fact of a class or of a role.
+#![tactic(auto)]
+
+mod fault;
+mod line;
+mod lines;
+mod meaning;
+mod reading;
+mod runs;
+mod spelling;
+mod triple;
+
+pub use fault::TripleFault;
+pub use reading::{Triples, read_triples};
