@@ -10,3 +10,4 @@ pub mod TripleLemmas
 pub mod TextLemmas
 pub mod ValueLemmas
 pub mod PlaceLemmas
+pub mod TextUtf8Lemmas

@@ -1,0 +1,13 @@
+use Rattle.dl_triples.proofs.FormLemmas.{one_triple, triple_no_nothing, triple_no_node, has_node_no_nothing}
+use Rattle.dl_triples.proofs.TextUtf8Lemmas.{triple_utf8, nothing_utf8}
+use Rattle.dl_triples.proofs.laws.lines_have_one_form.Goals as goal
+
+pub returns : goal.returns
+returns c = record {
+  terms = one_triple;
+  no_comment = triple_no_nothing;
+  no_node = triple_no_node;
+  no_node_in_comment = has_node_no_nothing;
+  triple_text = triple_utf8;
+  comment_text = nothing_utf8;
+}
