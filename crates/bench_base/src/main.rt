@@ -4,6 +4,7 @@
 mod answer;
 mod lex;
 mod reach;
+mod triples;
 
 use std::process::ExitCode;
 use std::{env, io};
@@ -17,6 +18,7 @@ fn main(rt: HostRuntime) -> io::Result<ExitCode> {
         Some(word) if word.as_str() == "reach" => reach::run(&rt, &words)?,
         Some(word) if word.as_str() == "lex" => lex::run(&rt, &words)?,
         Some(word) if word.as_str() == "answer" => answer::run(&rt, &words),
+        Some(word) if word.as_str() == "triples" => triples::run(&rt, &words)?,
         _ => false,
     };
     if done {
@@ -25,5 +27,6 @@ fn main(rt: HostRuntime) -> io::Result<ExitCode> {
     eprintln!(rt; "bench_base {}", reach::WORDS)?;
     eprintln!(rt; "bench_base {}", lex::WORDS)?;
     eprintln!(rt; "bench_base {}", answer::WORDS)?;
+    eprintln!(rt; "bench_base {}", triples::WORDS)?;
     Ok(ExitCode::FAILURE)
 }

@@ -16,3 +16,5 @@ mod reach;
 mod run;
 #[cfg(test)]
 mod terms;
+#[cfg(test)]
+mod triples;

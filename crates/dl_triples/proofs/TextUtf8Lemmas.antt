@@ -70,9 +70,10 @@ count_low e n h = by (nat_eq e 117) refl (nat_eq e 85) refl
 around_escape : {part : List ℕ} {c : ℕ} (before rest : List ℕ) → IsEscape quotings.Iri part c → IsUtf8 (before ++ (part ++ rest)) → IsUtf8 before × IsUtf8 rest
 around_escape before rest (letter h) text = absurd (cc)
 around_escape before rest (number {e = e} {digits = digits} count hex _ _ _) text =
-    let opened = past_ascii 92 (e ∷ digits ++ rest) (omega arith) (behind_ascii before 92 (e ∷ digits ++ rest) (omega arith) text) in
-    (before_ascii before 92 (e ∷ digits ++ rest) (omega arith) text,
-      past_all is_ascii_hexdigit hexdigit_low digits rest hex (past_ascii e (digits ++ rest) (count_low e (length digits) count) opened))
+    let opened = past_ascii 92 (e ∷ digits ++ rest) (omega arith) (behind_ascii before 92 (e ∷ digits ++ rest) (omega arith) text) in (
+      before_ascii before 92 (e ∷ digits ++ rest) (omega arith) text,
+      past_all is_ascii_hexdigit hexdigit_low digits rest hex (past_ascii e (digits ++ rest) (count_low e (length digits) count) opened),
+    )
 
 escape_scalar : {part : List ℕ} {c : ℕ} → IsEscape quotings.Iri part c → IsScalar c
 escape_scalar (letter h) = absurd (cc)
