@@ -1,13 +1,13 @@
 -- Naming the names of a fact one after the other.
-use Rattle.std.proofs.Common.{◌≡◌, ℕ, ◌+◌, ◌<◌, ◌≤◌, Bool, true, false, List, [], ◌∷◌, ◌++◌, length, take, Option, Some, None, Result, Ok, Err, refl, sym, ap, ◌∙◌, subst, arith}
+use Rattle.std.proofs.Common.{◌≡◌, ℕ, true, List, [], ◌∷◌, ◌++◌, Some, Result, Ok, Err, sym, ap, ◌∙◌, subst}
 use Rattle.std.specs.Result.{OnErr}
 use Rattle.dl_names.specs.NameList.{Text, names_after, place_of, has_name, Extends}
-use Rattle.dl_names.proofs.NameListLemmas.{Extends-same, Extends-trans, Extends-names_after, place_of-Extends, has_name-names_after, has_name-Extends, place_of-lt, length-Extends}
+use Rattle.dl_names.proofs.NameListLemmas.{Extends-same, Extends-trans, Extends-names_after, place_of-Extends, has_name-names_after}
 use Rattle.dl_terms.specs.declared.axiom.Fact.{Fact}
 use Rattle.dl_terms.specs.declared.axiom.Fact.TheVariants.{Is, Link}
 use Rattle.dl_triples.specs.declared.meaning.Meaning.TheVariants as meanings
 use Rattle.dl_triples.specs.Meaning.{all_named}
-use Rattle.dl_triples.specs.Adding.{AddsFact, NamesFirst}
+use Rattle.dl_triples.specs.Adding.{AddsFact}
 
 -- what holds whatever the result is
 pub on_err_always : {T E P : Type 0} (r : Result T E) → P → OnErr r P

@@ -1,17 +1,16 @@
 -- Objects and the dot behind them: what stands at the front is determined, and what the readers find is what the grammar has.
-use Rattle.std.proofs.Common.{◌≡◌, ℕ, Bool, true, false, ◌||◌, ◌⊎◌, inl, inr, List, [], ◌∷◌, ◌++◌, length, Option, Some, None, MatchOption, Bor, refl, sym, ap, ◌∙◌, subst, append_assoc, append-nil, true≢false, IsTrue, nat_eq, arith}
+use Rattle.std.proofs.Common.{◌≡◌, ℕ, Bool, true, false, ◌||◌, ◌⊎◌, inl, inr, List, [], ◌∷◌, ◌++◌, Option, Some, None, MatchOption, Bor, refl, sym, ap, ◌∙◌, subst, append_assoc, true≢false, nat_eq, arith}
 use borrow.Author.Tests.{eqb-true}
-use Rattle.std.specs.List.{list_all}
 use Rattle.std.specs.Char.{is_ascii_alphabetic, is_ascii_alphanumeric}
 use Rattle.dl_names.specs.NameList.{Text}
 use Rattle.dl_triples.specs.declared.spelling.Quoting.TheVariants as quotings
 use Rattle.dl_triples.specs.declared.line.Iri.{Iri}
 use Rattle.dl_triples.specs.Runs.{begins, IsSplit}
-use Rattle.dl_triples.specs.Terms.{is_blank, trimmed, IsIriref, AreSubtags, none, more, IsTag, IsSuffix, nothing, datatype, language, IsLiteral, IsObject, iri, literal, IriThen, ObjectThen}
+use Rattle.dl_triples.specs.Terms.{is_blank, trimmed, AreSubtags, none, more, IsSuffix, nothing, datatype, language, IsObject, iri, literal, IriThen, ObjectThen}
 use Rattle.dl_triples.specs.Parts as parts
 use Rattle.dl_triples.specs.Parts.{TextThen, FindsText, SubtagsThen, TagThen, SuffixThen, LiteralThen, FindsIri, FindsObject, IsKeptObject}
 use Rattle.dl_triples.proofs.RunLemmas.{one_run}
-use Rattle.dl_triples.proofs.SpelledLemmas.{first_same, rest_same, not_empty}
+use Rattle.dl_triples.proofs.SpelledLemmas.{first_same, rest_same}
 use Rattle.dl_triples.proofs.TermLemmas.{iri_opened, one_iri, one_text}
 
 -- ---- the dot

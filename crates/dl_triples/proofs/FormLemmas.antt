@@ -1,11 +1,10 @@
 -- The forms of lines exclude one another, and the terms of a triple are determined.
-use Rattle.std.proofs.Common.{◌≡◌, ℕ, List, [], ◌∷◌, Option, Some, None, refl, sym, ap, ◌∙◌, subst, arith}
+use Rattle.std.proofs.Common.{◌≡◌, ℕ, List, ◌∷◌, Option, refl, sym, ◌∙◌, subst, arith}
 use Rattle.dl_names.specs.NameList.{Text}
 use Rattle.dl_triples.specs.declared.line.Iri.{Iri}
-use Rattle.dl_triples.specs.declared.line.Triple.{Triple}
 use Rattle.dl_triples.specs.Terms.{trimmed, IriThen, ObjectThen, IsNothing, empty, comment, IsTriple, NodeNext, HasNode, subject, object}
-use Rattle.dl_triples.specs.Parts.{IsKept, IsKeptObject, FindsIri, FindsObject, KeepsTriple, HasNoForm}
-use Rattle.dl_triples.proofs.SpelledLemmas.{first_same, rest_same, not_empty}
+use Rattle.dl_triples.specs.Parts.{FindsIri, FindsObject, KeepsTriple, HasNoForm}
+use Rattle.dl_triples.proofs.SpelledLemmas.{first_same, not_empty}
 use Rattle.dl_triples.proofs.TermLemmas.{iri_opened, one_iri}
 use Rattle.dl_triples.proofs.DotLemmas.{one_object, one_end, either_of, object_opens}
 

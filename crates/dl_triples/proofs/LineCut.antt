@@ -1,9 +1,6 @@
 -- The cut of bytes into lines: there is one, and reading line by line finds it.
-use Rattle.std.proofs.Common.{◌≡◌, ℕ, Bool, true, false, not, List, [], ◌∷◌, ◌++◌, refl, sym, ap, ◌∙◌, subst, append_assoc, append-nil, nat_eq, true≢false}
+use Rattle.std.proofs.Common.{◌≡◌, ℕ, Bool, true, false, List, [], ◌∷◌, ◌++◌, refl, sym, ap, ◌∙◌, subst, append-nil, nat_eq, true≢false}
 use borrow.Author.Tests.{eqb-true}
-use Rattle.std.specs.List.{list_all}
-use Rattle.std.proofs.lemmas.Bool.{and_parts}
-use Rattle.std.proofs.lemmas.List.{append_cancel_left}
 use Rattle.dl_triples.specs.Lines.{is_line_byte, IsLine, IsLineEnd, cr_lf, lf, cr, AreLines, last, ended}
 use Rattle.dl_triples.specs.Runs.{begins, IsSplit}
 use Rattle.dl_triples.specs.Parts.{LineThen}

@@ -1,8 +1,8 @@
 -- The places that facts name are within the names.
-use Rattle.std.proofs.Common.{◌≡◌, ℕ, ◌+◌, ◌<◌, ◌≤◌, Bool, true, List, [], ◌∷◌, ◌++◌, length, Option, Some, None, All, refl, sym, ap, ◌∙◌, subst, arith}
+use Rattle.std.proofs.Common.{ℕ, ◌<◌, List, [], ◌∷◌, length, Option, Some, None, All, sym, subst, arith}
 use Rattle.std.proofs.lemmas.List.Elements.{All-nil, All-append, All-push}
-use Rattle.dl_names.specs.NameList.{Text, names_after, place_of, has_name, Extends}
-use Rattle.dl_names.proofs.NameListLemmas.{Extends-same, Extends-trans, Extends-names_after, has_name-names_after, has_name-Extends, place_of-lt, length-Extends}
+use Rattle.dl_names.specs.NameList.{Text, names_after, place_of, Extends}
+use Rattle.dl_names.proofs.NameListLemmas.{Extends-same, Extends-trans, has_name-names_after, has_name-Extends, place_of-lt, length-Extends}
 use Rattle.dl_terms.specs.declared.axiom.Fact.{Fact}
 use Rattle.dl_terms.specs.Occurring.{fact_names}
 use Rattle.dl_triples.specs.declared.meaning.Meaning.{Meaning}

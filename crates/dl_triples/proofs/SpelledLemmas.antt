@@ -1,11 +1,11 @@
 -- Reading a text run by run and escape by escape.
-use Rattle.std.proofs.Common.{◌≡◌, ℕ, ◌<◌, ◌≤◌, Bool, true, false, not, List, [], ◌∷◌, ◌++◌, length, refl, sym, ap, ◌∙◌, subst, append_assoc, append-nil, true≢false, IsTrue, arith, length-append}
+use Rattle.std.proofs.Common.{◌≡◌, ℕ, ◌<◌, false, List, [], ◌∷◌, ◌++◌, length, refl, sym, ap, ◌∙◌, subst, append_assoc, append-nil, arith, length-append}
 use Rattle.std.specs.Char.{encode_utf8}
 use Rattle.dl_triples.specs.declared.spelling.Quoting.{Quoting}
 use Rattle.dl_triples.specs.declared.spelling.Quoting.TheVariants.{Iri, Literal}
 use Rattle.dl_triples.specs.Spelling.{is_plain, Spells}
 use Rattle.dl_triples.specs.Runs.{begins, IsSplit}
-use Rattle.dl_triples.specs.Parts.{EscapeThen, SpelledThen, IsSpelled, goes_on, closing, TextThen}
+use Rattle.dl_triples.specs.Parts.{EscapeThen, SpelledThen, goes_on, closing, TextThen}
 use Rattle.dl_triples.proofs.SpellingLemmas.{escape_opens, Spells-append, Spells-plain, Spells-escape, behind_spelled, ends_spelled}
 
 -- lists that are the same have the same first item and the same rest

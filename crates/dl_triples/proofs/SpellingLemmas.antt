@@ -1,16 +1,14 @@
 -- A text is spelled in one way: what its bytes spell, and where it ends, is determined.
-use Rattle.std.proofs.Common.{◌≡◌, ℕ, ◌+◌, Bool, true, false, not, ◌||◌, nat_eq, List, [], ◌∷◌, ◌++◌, length, Option, Some, None, refl, sym, ap, ◌∙◌, subst, append_assoc, append-nil, true≢false, IsTrue, arith, suc, MatchOption, Bor}
+use Rattle.std.proofs.Common.{◌≡◌, ℕ, Bool, true, false, nat_eq, List, [], ◌∷◌, ◌++◌, length, Option, Some, None, refl, sym, ap, ◌∙◌, subst, append_assoc, append-nil, true≢false, arith, MatchOption, Bor}
 use borrow.Author.Tests.{eqb-true}
 use Rattle.std.specs.List.{list_all}
 use Rattle.std.specs.Char.{encode_utf8}
-use Rattle.std.specs.Str.{IsUtf8}
 use Rattle.std.proofs.lemmas.Bool.{and_parts}
-use Rattle.std.proofs.lemmas.List.{append_cancel_left, append_cancel_right}
 use Rattle.dl_triples.specs.declared.spelling.Quoting.{Quoting}
 use Rattle.dl_triples.specs.declared.spelling.Quoting.TheVariants.{Iri, Literal}
 use Rattle.dl_triples.specs.Spelling.{is_plain, letter_value, digit_count, hex_value, IsEscape, letter, number, Spells, nothing, plain, escape}
-use Rattle.dl_triples.specs.Runs.{begins, IsSplit}
-use Rattle.dl_triples.specs.Parts.{EscapeThen, NumberThen, SpelledThen, goes_on, closing, TextThen}
+use Rattle.dl_triples.specs.Runs.{begins}
+use Rattle.dl_triples.specs.Parts.{EscapeThen, NumberThen, SpelledThen, goes_on}
 
 -- lists of one length at the front are one
 pub append_same_length : (xs ys us vs : List ℕ) → length xs ≡ length ys → xs ++ us ≡ ys ++ vs → (xs ≡ ys) × (us ≡ vs)

@@ -1,14 +1,13 @@
 -- The terms of a line: what stands at the front is determined, and what the readers find is what the grammar has.
-use Rattle.std.proofs.Common.{◌≡◌, ℕ, ◌+◌, ◌-◌, ◌<◌, ◌≤◌, Bool, true, false, not, List, [], ◌∷◌, ◌++◌, length, take, Option, Some, None, MatchOption, Bor, refl, sym, ap, ◌∙◌, subst, append_assoc, append-nil, true≢false, IsTrue, arith, length-append}
+use Rattle.std.proofs.Common.{◌≡◌, ℕ, ◌-◌, Bool, List, [], ◌∷◌, ◌++◌, length, take, refl, sym, ap, ◌∙◌, subst, append_assoc, append-nil, arith, length-append}
 use Rattle.std.specs.Str.{IsUtf8}
-use Rattle.std.proofs.lemmas.List.{append_cancel_left, append_cancel_right, take_at}
-use Rattle.dl_names.specs.NameList.{Text}
+use Rattle.std.proofs.lemmas.List.{take_at}
 use Rattle.dl_triples.specs.declared.spelling.Quoting.{Quoting}
 use Rattle.dl_triples.specs.declared.spelling.Quoting.TheVariants as quotings
 use Rattle.dl_triples.specs.declared.line.Iri.{Iri}
-use Rattle.dl_triples.specs.Terms.{trimmed, IsIriref, IriThen, IsNothing, empty, comment}
-use Rattle.dl_triples.specs.Parts.{closing, SpelledThen, TextThen, FindsText, IsSpelled, IsKept, FindsIri}
-use Rattle.dl_triples.proofs.SpellingLemmas.{behind_spelled, ends_spelled, one_value}
+use Rattle.dl_triples.specs.Terms.{trimmed, IriThen, IsNothing, empty, comment}
+use Rattle.dl_triples.specs.Parts.{closing, SpelledThen, TextThen, FindsText, IsSpelled, FindsIri}
+use Rattle.dl_triples.proofs.SpellingLemmas.{behind_spelled, ends_spelled}
 use Rattle.dl_triples.proofs.SpelledLemmas.{SpelledThen-closed, closing_no_plain, closing_no_escape}
 
 -- ---- texts up to what closes them

@@ -1,7 +1,6 @@
 -- Reading line by line gives the value of the whole, or its first fault.
-use Rattle.std.proofs.Common.{◌≡◌, ℕ, suc, ◌+◌, ◌<◌, ◌≤◌, Bool, true, false, nat_eq, List, [], ◌∷◌, ◌++◌, length, Option, Some, None, Bor, refl, sym, ap, ◌∙◌, subst, append_assoc, append-nil, add-zero, zero-add, arith, length-append}
+use Rattle.std.proofs.Common.{◌≡◌, ℕ, ◌+◌, ◌<◌, ◌≤◌, Bool, true, false, nat_eq, List, [], ◌∷◌, ◌++◌, length, Option, Some, None, Bor, refl, sym, ap, ◌∙◌, subst, append_assoc, append-nil, add-zero, zero-add, arith, length-append}
 use borrow.Author.Tests.{eqb-true}
-use Rattle.std.specs.List.{list_all}
 use Rattle.dl_names.specs.NameList.{Text}
 use Rattle.dl_terms.specs.declared.axiom.Fact.{Fact}
 use Rattle.dl_triples.specs.declared.fault.TripleFault.{TripleFault}
@@ -9,7 +8,7 @@ use Rattle.dl_triples.specs.declared.meaning.Meaning.{Meaning}
 use Rattle.dl_triples.specs.declared.meaning.Meaning.TheVariants as meanings
 use Rattle.dl_triples.specs.Lines.{is_line_byte, IsLine, IsLineEnd, cr_lf, lf, cr, AreLines, last, ended}
 use Rattle.dl_triples.specs.Meaning.{meaning_of, skips}
-use Rattle.dl_triples.specs.Reading.{Gives, nothing, triple, GivesTriple, HasFault, AreRead, none, line, FirstFault, here, later, IsValue, IsFirstFault, HoldsFirst, HoldsPart}
+use Rattle.dl_triples.specs.Reading.{Gives, nothing, triple, HasFault, AreRead, none, line, FirstFault, here, later, IsValue, IsFirstFault, HoldsFirst, HoldsPart}
 use Rattle.dl_triples.specs.Parts.{LineThen, IsFirstLine}
 use Rattle.dl_triples.proofs.SpelledLemmas.{first_same, not_empty}
 

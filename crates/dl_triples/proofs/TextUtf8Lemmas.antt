@@ -1,5 +1,5 @@
 -- The IRI that an IRIREF spells is one, and right lines are UTF-8.
-use Rattle.std.proofs.Common.{◌≡◌, ◌≢◌, ℕ, ◌+◌, ◌<◌, ◌≤◌, ◌⊎◌, inl, inr, Bool, true, false, not, ◌&&◌, List, [], ◌∷◌, ◌++◌, length, take, drop, get_or, Option, Some, None, refl, sym, ap, ◌∙◌, subst, append_assoc, append-nil, arith, length-append, nat_eq, ◌/◌, ◌%◌, cond}
+use Rattle.std.proofs.Common.{◌≡◌, ℕ, ◌+◌, ◌<◌, ◌≤◌, ◌⊎◌, inl, inr, Bool, true, false, ◌&&◌, List, [], ◌∷◌, ◌++◌, length, get_or, Option, Some, None, refl, sym, ap, ◌∙◌, subst, append_assoc, arith, length-append, nat_eq, ◌/◌, ◌%◌, cond}
 use borrow.Author.Tests.{eqb-true}
 use Rattle.std.proofs.Math.Utf8.{encode, low_scalar}
 use Rattle.std.specs.List.{list_all}
@@ -9,12 +9,11 @@ use Rattle.std.proofs.lemmas.Bool.{cases_lt, and_parts}
 use Rattle.std.proofs.lemmas.Bool.Decides.{nat_tests}
 use Rattle.std.proofs.lemmas.List.{take_at, drop_at, get_or_at, append_cancel_right}
 use Rattle.std.proofs.lemmas.List.Folds.{list_all-append}
-use Rattle.std.proofs.lemmas.Str.{IsUtf8-nil, IsUtf8-append, encode_ascii, IsUtf8-encode, IsUtf8-take, IsUtf8-drop, IsCharBoundary-before_ascii, IsCharBoundary-after_ascii, IsCharBoundary-at_seam}
+use Rattle.std.proofs.lemmas.Str.{IsUtf8-nil, IsUtf8-append, encode_ascii, IsUtf8-encode, IsUtf8-take, IsUtf8-drop, IsCharBoundary-before_ascii, IsCharBoundary-after_ascii}
 use Rattle.dl_names.specs.NameList.{Text}
 use Rattle.dl_names.specs.Iris.{is_iri_byte, IsIri}
-use Rattle.dl_triples.specs.declared.spelling.Quoting.{Quoting}
 use Rattle.dl_triples.specs.declared.spelling.Quoting.TheVariants as quotings
-use Rattle.dl_triples.specs.Spelling.{is_plain, IsEscape, letter, number, Spells, nothing, plain, escape, digit_count}
+use Rattle.dl_triples.specs.Spelling.{IsEscape, letter, number, Spells, nothing, plain, escape, digit_count}
 use Rattle.dl_triples.specs.Terms as terms
 use Rattle.dl_triples.specs.Terms.{is_blank, trimmed, IsIriref, AreSubtags, none, more, IsSuffix, datatype, language, IsObject, IriThen, IsNothing, empty, comment, IsTriple}
 use Rattle.dl_triples.proofs.SpellingLemmas.{Spells-plain, one_value}

@@ -1,22 +1,20 @@
 -- What a triple does by its terms, and a line by its form.
-use Rattle.std.proofs.Common.{◌≡◌, ◌≢◌, ℕ, ◌+◌, List, [], ◌∷◌, ◌++◌, Option, Some, None, Result, Ok, Err, MatchResult, refl, sym, ap, ◌∙◌, subst, append-nil, add-zero}
+use Rattle.std.proofs.Common.{◌≡◌, ◌≢◌, ℕ, ◌+◌, List, [], ◌∷◌, Option, Some, None, Result, Ok, Err, MatchResult, refl, sym, ap, ◌∙◌, subst, append-nil, add-zero}
 use Rattle.std.proofs.lemmas.Bool.{false≢true}
 use Rattle.std.specs.Result.{IsOk, OnOk, OnErr, IfErr}
 use Rattle.dl_names.specs.NameList.{Text}
 use Rattle.dl_names.specs.declared.fault.NameFault.{NameFault}
 use Rattle.dl_names.specs.declared.fault.NameFault.TheVariants as name_faults
 use Rattle.dl_terms.specs.declared.axiom.Fact.{Fact}
-use Rattle.dl_triples.specs.declared.meaning.Meaning.{Meaning}
 use Rattle.dl_triples.specs.declared.meaning.Meaning.TheVariants as meanings
 use Rattle.dl_triples.specs.declared.fault.TripleFault.{TripleFault}
 use Rattle.dl_triples.specs.declared.fault.TripleFault.TheVariants as faults
 use Rattle.dl_triples.specs.declared.reading.Triples.{Triples}
 use Rattle.dl_triples.specs.declared.line.Iri.{Iri}
-use Rattle.dl_triples.specs.declared.line.Triple.{Triple}
 use Rattle.dl_triples.specs.Meaning.{meaning_of, names_of, skips, all_named}
-use Rattle.dl_triples.specs.Terms.{IsNothing, IsTriple, HasNode}
-use Rattle.dl_triples.specs.Parts.{IsKept, IsKeptObject, iri, literal, IsKeptTriple, KeepsTriple}
-use Rattle.dl_triples.specs.Reading.{Gives, nothing, triple, GivesTriple, Overflows, HasFault, reserved, full, HoldsFirst, some}
+use Rattle.dl_triples.specs.Terms.{IsNothing, IsTriple}
+use Rattle.dl_triples.specs.Parts.{IsKept, IsKeptObject, iri, literal}
+use Rattle.dl_triples.specs.Reading.{nothing, triple, Overflows, HasFault, reserved, full, HoldsFirst, some}
 use Rattle.dl_triples.specs.Adding as adding
 use Rattle.dl_triples.specs.Adding.{AddsFact, AddsTriple, AddsLine, NamesFirst, fault_at, HasTripleFault}
 

@@ -1,5 +1,5 @@
 -- A text has one value or one first fault, and never both.
-use Rattle.std.proofs.Common.{◌≡◌, ◌≢◌, ℕ, suc, ◌+◌, ◌<◌, ◌≤◌, ◌⊎◌, inl, inr, Bool, true, false, List, [], ◌∷◌, ◌++◌, length, Option, Some, None, refl, sym, ap, ◌∙◌, subst, arith}
+use Rattle.std.proofs.Common.{◌≡◌, ◌≢◌, ℕ, ◌+◌, ◌<◌, ◌≤◌, ◌⊎◌, inl, inr, List, [], ◌∷◌, ◌++◌, length, Option, refl, sym, ap, ◌∙◌, subst, arith}
 use Rattle.std.proofs.lemmas.Bool.{cases_lt}
 use Rattle.dl_names.specs.NameList.{Text, max_names}
 use Rattle.dl_terms.specs.declared.axiom.Fact.{Fact}
@@ -7,10 +7,9 @@ use Rattle.dl_triples.specs.declared.fault.TripleFault.{TripleFault}
 use Rattle.dl_triples.specs.declared.fault.TripleFault.TheVariants as faults
 use Rattle.dl_triples.specs.declared.meaning.Meaning.{Meaning}
 use Rattle.dl_triples.specs.declared.meaning.Meaning.TheVariants as meanings
-use Rattle.dl_triples.specs.Lines.{AreLines}
 use Rattle.dl_triples.specs.Meaning.{meaning_of, names_of, facts_of, skips, all_named}
 use Rattle.dl_triples.specs.Terms.{IsNothing, IsTriple, HasNode}
-use Rattle.dl_triples.specs.Reading.{Gives, nothing, triple, GivesTriple, Overflows, HasNoRoom, HasFault, neither, blank, reserved, full, AreRead, none, line, FirstFault, here, later, IsValue, IsFirstFault}
+use Rattle.dl_triples.specs.Reading.{Gives, nothing, triple, GivesTriple, Overflows, HasFault, neither, blank, reserved, full, AreRead, none, line, FirstFault, here, later, IsValue, IsFirstFault}
 use Rattle.dl_triples.proofs.FormLemmas.{triple_no_nothing, has_node_no_nothing, triple_no_node, one_triple}
 use Rattle.dl_triples.proofs.LineCut.{one_cut}
 use Rattle.dl_triples.proofs.TextLemmas.{lines_of}

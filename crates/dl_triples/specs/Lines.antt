@@ -1,5 +1,6 @@
--- The lines of a text in RDF 1.1 N-Triples (there EOL; the empty run of EOLs and the last line without one included).
-use Rattle.std.specs.Prelude.{◌≡◌, ℕ, Bool, true, false, not, ◌||◌, ◌==◌, List, [], ◌∷◌, ◌++◌}
+-- The lines of a text. RDF 1.1 N-Triples ends a triple by a run of line ends (EOL), so lines may be empty, and
+-- the last one needs no end.
+use Rattle.std.specs.Prelude.{◌≡◌, ℕ, Bool, true, not, ◌||◌, ◌==◌, List, [], ◌∷◌, ◌++◌}
 use Rattle.std.specs.List.{list_all}
 
 -- no carriage return and no line feed
@@ -16,7 +17,8 @@ pub data IsLineEnd : List ℕ → List ℕ → Type 0 where
   lf : {rest : List ℕ} → IsLineEnd (10 ∷ []) rest
   cr : {rest : List ℕ} → ((more : List ℕ) → rest ≡ 10 ∷ more → ⊥) → IsLineEnd (13 ∷ []) rest
 
--- the bytes are these lines, each ended by a line end, but for the last, which the end of the bytes ends
+-- the bytes are these lines, each ended by a line end, but for the last one, which the end of the bytes
+-- ends
 pub data AreLines : List ℕ → List (List ℕ) → Type 0 where
   last : {line : List ℕ} → IsLine line → AreLines line (line ∷ [])
   ended : {bytes line end rest : List ℕ} {lines : List (List ℕ)}

@@ -1,5 +1,5 @@
--- What a triple says (OWL 2 Mapping to RDF Graphs: class and object property assertions). What is skipped, what has no effect and
--- what is reserved is this project's own.
+-- What a triple says (OWL 2 Mapping to RDF Graphs: class and object property assertions). What is skipped,
+-- what has no effect and what is reserved is this project's own.
 use Rattle.std.specs.Prelude.{ℕ, Bool, not, List, [], ◌∷◌, codes, Option, Some, None, if◌then◌else◌}
 use Rattle.std.specs.List.{list_any}
 use Rattle.std.specs.Str.{bytes_eq}
@@ -15,10 +15,14 @@ use Rattle.dl_triples.specs.declared.meaning.Meaning.TheVariants as meanings
 -- the annotation properties that OWL 2 has built in
 abbrev pub annotation_properties : List Text
 annotation_properties =
-    codes "http://www.w3.org/2000/01/rdf-schema#label" ∷ codes "http://www.w3.org/2000/01/rdf-schema#comment"
-    ∷ codes "http://www.w3.org/2000/01/rdf-schema#seeAlso" ∷ codes "http://www.w3.org/2000/01/rdf-schema#isDefinedBy"
-    ∷ codes "http://www.w3.org/2002/07/owl#versionInfo" ∷ codes "http://www.w3.org/2002/07/owl#deprecated"
-    ∷ codes "http://www.w3.org/2002/07/owl#priorVersion" ∷ codes "http://www.w3.org/2002/07/owl#backwardCompatibleWith"
+    codes "http://www.w3.org/2000/01/rdf-schema#label"
+    ∷ codes "http://www.w3.org/2000/01/rdf-schema#comment"
+    ∷ codes "http://www.w3.org/2000/01/rdf-schema#seeAlso"
+    ∷ codes "http://www.w3.org/2000/01/rdf-schema#isDefinedBy"
+    ∷ codes "http://www.w3.org/2002/07/owl#versionInfo"
+    ∷ codes "http://www.w3.org/2002/07/owl#deprecated"
+    ∷ codes "http://www.w3.org/2002/07/owl#priorVersion"
+    ∷ codes "http://www.w3.org/2002/07/owl#backwardCompatibleWith"
     ∷ codes "http://www.w3.org/2002/07/owl#incompatibleWith" ∷ []
 
 abbrev pub rdf_type : Text
@@ -26,7 +30,8 @@ rdf_type = codes "http://www.w3.org/1999/02/22-rdf-syntax-ns#type"
 
 -- the classes that every individual is in: that one is in them says nothing
 abbrev pub universal_classes : List Text
-universal_classes = codes "http://www.w3.org/2002/07/owl#NamedIndividual" ∷ codes "http://www.w3.org/2002/07/owl#Thing" ∷ []
+universal_classes =
+    codes "http://www.w3.org/2002/07/owl#NamedIndividual" ∷ codes "http://www.w3.org/2002/07/owl#Thing" ∷ []
 
 -- the IRI is one of these
 abbrev pub is_among : Text → List Text → Bool
@@ -54,7 +59,8 @@ meaning_of_kinds _ _ _ = meanings.Reserved
 -- what a triple says; one whose object is a literal is skipped
 abbrev pub meaning_of : Text → Text → Option Text → Meaning
 meaning_of subject predicate None = meanings.Skipped
-meaning_of subject predicate (Some object) = meaning_of_kinds (kind_of subject) (kind_of predicate) (kind_of object)
+meaning_of subject predicate (Some object) =
+    meaning_of_kinds (kind_of subject) (kind_of predicate) (kind_of object)
 
 -- the names of a fact, in the order of the triple; rdf:type is none of them
 abbrev pub names_of : Meaning → Text → Text → Option Text → List Text
@@ -64,7 +70,8 @@ names_of _ subject predicate object = []
 
 -- the fact, by the places of its names
 abbrev pub facts_of : Meaning → Text → Text → Option Text → List Text → List Fact
-facts_of meanings.Class subject predicate (Some object) names = Is (place_of names object) (place_of names subject) ∷ []
+facts_of meanings.Class subject predicate (Some object) names =
+    Is (place_of names object) (place_of names subject) ∷ []
 facts_of meanings.Link subject predicate (Some object) names =
     Link (place_of names predicate) (place_of names subject) (place_of names object) ∷ []
 facts_of _ subject predicate object names = []
@@ -73,6 +80,15 @@ facts_of _ subject predicate object names = []
 abbrev pub skips : Meaning → ℕ
 skips meanings.Skipped = 1
 skips _ = 0
+
+-- the names of what a triple says, and its fact
+abbrev pub triple_names : Text → Text → Option Text → List Text
+triple_names subject predicate object =
+    names_of (meaning_of subject predicate object) subject predicate object
+
+abbrev pub triple_facts : Text → Text → Option Text → List Text → List Fact
+triple_facts subject predicate object names =
+    facts_of (meaning_of subject predicate object) subject predicate object names
 
 -- the names after these texts are named, from left to right
 abbrev pub all_named : List Text → List Text → List Text

@@ -1,5 +1,5 @@
 -- What the private readers find at the front of bytes.
-use Rattle.std.specs.Prelude.{◌≡◌, ℕ, Bool, true, false, ◌||◌, ◌==◌, List, [], ◌∷◌, ◌++◌, Option, Some, None, length, IsTrue, MatchOption}
+use Rattle.std.specs.Prelude.{◌≡◌, ℕ, Bool, true, false, ◌||◌, ◌==◌, List, ◌∷◌, ◌++◌, Option, Some, None, length, IsTrue, MatchOption}
 use Rattle.std.specs.Borrow.{Bor}
 use Rattle.dl_names.specs.NameList.{Text}
 use Rattle.dl_triples.specs.declared.spelling.Quoting.{Quoting}
@@ -33,7 +33,8 @@ pub record SpelledThen (quoting : Quoting) (bytes value rest : List ℕ) : Type 
   pub spells : Spells quoting text value
   pub ends : begins (goes_on quoting) rest ≡ false
 
--- a text is spelled at the front, and no other goes on behind it; it spells itself where it is plain
+-- a text is spelled at the front, and no other goes on behind it; it spells itself where it is
+-- plain
 pub record IsSpelled (quoting : Quoting) (bytes rest : List ℕ) (plain : Bool) : Type 0 where
   pub text : List ℕ
   pub value : List ℕ
@@ -43,7 +44,8 @@ pub record IsSpelled (quoting : Quoting) (bytes rest : List ℕ) (plain : Bool) 
   pub only : (other tail : List ℕ) → SpelledThen quoting bytes other tail → rest ≡ tail
 
 -- the digits of an escape stand at the front, and then the rest
-pub record NumberThen (quoting : Quoting) (e : ℕ) (bytes : List ℕ) (c : ℕ) (rest : List ℕ) : Type 0 where
+pub record NumberThen (quoting : Quoting) (e : ℕ) (bytes : List ℕ) (c : ℕ) (rest : List ℕ)
+    : Type 0 where
   pub digits : List ℕ
   pub count : digit_count e ≡ Some (length digits)
   pub hex : list_all is_ascii_hexdigit digits ≡ true
@@ -64,7 +66,8 @@ pub record TextThen (quoting : Quoting) (bytes text value rest : List ℕ) : Typ
   pub spells : Spells quoting text value
 
 -- such a text, which spells itself where it is plain
-pub record FindsText (quoting : Quoting) (bytes text : List ℕ) (plain : Bool) (rest : List ℕ) : Type 0 where
+pub record FindsText (quoting : Quoting) (bytes text : List ℕ) (plain : Bool) (rest : List ℕ)
+    : Type 0 where
   pub value : List ℕ
   pub then : TextThen quoting bytes text value rest
   pub same : IsTrue plain → value ≡ text
@@ -124,7 +127,8 @@ pub record FindsObject (bytes : List ℕ) (object : Option Iri) (rest : List ℕ
   pub kept : IsKeptObject object value
 
 -- a triple as it is kept
-pub record IsKeptTriple (triple : Triple) (subject predicate : Text) (object : Option Text) : Type 0 where
+pub record IsKeptTriple (triple : Triple) (subject predicate : Text) (object : Option Text)
+    : Type 0 where
   pub first : IsKept triple.subject subject
   pub second : IsKept triple.predicate predicate
   pub third : IsKeptObject triple.object object
@@ -140,7 +144,8 @@ pub record KeepsTriple (line : List ℕ) (triple : Triple) : Type 0 where
 -- the line has none of the forms, and no blank node begins where a term has to begin
 pub record HasNoForm (line : List ℕ) : Type 0 where
   pub no_nothing : IsNothing line → ⊥
-  pub no_triple : (subject predicate : Text) (object : Option Text) → IsTriple line subject predicate object → ⊥
+  pub no_triple : (subject predicate : Text) (object : Option Text)
+      → IsTriple line subject predicate object → ⊥
   pub no_node : HasNode line → ⊥
 
 -- the form of a line

@@ -1,4 +1,5 @@
--- The parts of a line of RDF 1.1 N-Triples, each on exactly its bytes, and the lines: triples, empty ones and comments.
+-- The parts of a line of RDF 1.1 N-Triples, each on exactly its bytes, and the lines: triples, empty ones and
+-- comments.
 use Rattle.std.specs.Prelude.{◌≡◌, ℕ, Bool, true, ◌||◌, ◌==◌, List, [], ◌∷◌, ◌++◌, Option, Some, None, if◌then◌else◌}
 use Rattle.std.specs.List.{list_all}
 use Rattle.std.specs.Char.{is_ascii_alphabetic, is_ascii_alphanumeric}
@@ -65,7 +66,8 @@ pub record IriThen (bytes : List ℕ) (iri : Text) (rest : List ℕ) : Type 0 wh
   pub is : IsIriref part iri
   pub stands : bytes ≡ part ++ rest
 
--- an object stands at the front, then, behind spaces and tabs, the dot that ends a triple, and then the rest
+-- an object stands at the front, then, behind spaces and tabs, the dot that ends a triple, and then the
+-- rest
 pub record ObjectThen (bytes : List ℕ) (object : Option Text) (rest : List ℕ) : Type 0 where
   pub part : List ℕ
   pub behind : List ℕ
@@ -96,4 +98,5 @@ NodeNext bytes = (rest : List ℕ) × (trimmed bytes ≡ 95 ∷ 58 ∷ rest)
 pub data HasNode (line : List ℕ) : Type 0 where
   subject : NodeNext line → HasNode line
   object : {subject predicate : Text} {second third : List ℕ}
-      → IriThen (trimmed line) subject second → IriThen (trimmed second) predicate third → NodeNext third → HasNode line
+      → IriThen (trimmed line) subject second → IriThen (trimmed second) predicate third → NodeNext third
+      → HasNode line

@@ -3,10 +3,10 @@ ghost use Rattle.dl_triples.specs.declared.fault.TripleFault.TheVariants as faul
 
 use thiserror::Error;
 
-/// Why a text of N-Triples has no value: the fault of its first line that has one, by the line's number from 1.
+/// Why a text of N-Triples has no value: the fault of its first line that has one, by that line's number from 1.
 #[derive(Clone, Copy, Debug, PartialEq, Eq, Error)]
 pub enum TripleFault {
-    /// The line is no triple, no comment and not empty, and no blank node begins in it where a term has to begin.
+    /// The line is no triple, no comment and not empty, and no blank node begins where a term has to begin.
     #[error("line {n}: not a triple")]
     Line { n: u64 },
     /// A blank node begins where the subject or, behind two right terms, the object has to begin.

@@ -1,4 +1,4 @@
-// The reader of facts in N-Triples: each triple is skipped, has no effect, or is a fact of a class or of a role.
+// The reader of facts in N-Triples: a triple is skipped, has no effect, or is a fact of a class or of a role.
 #![tactic(auto)]
 
 mod fault;

@@ -104,7 +104,8 @@ fn iri_then(bytes: &[u8]) -> Option<(Iri<'_>, &[u8])>
     Some((Iri { text, plain }, rest))
 }
 
-/// The text at the front up to the byte that closes it, whether it has no escapes, and what stands behind that byte.
+/// The text at the front up to the byte that closes it, whether it has no escapes, and what stands behind that
+/// byte.
 fn text_then(bytes: &[u8], quoting: Quoting, close: u8) -> Option<(&str, bool, &[u8])>
     requires { close ≡ closing quoting }
     ensures { MatchOption result

@@ -22,13 +22,14 @@ use std::alloc::Global;
 pub struct Triples {
     /// The facts, in the order of their lines. `read_triples` gives each name by its place in the name set.
     pub facts: List<Fact>,
-    /// How many triples were skipped: those with a literal, or with an annotation property that OWL 2 has built in.
+    /// How many triples were skipped: those with a literal, or with an annotation property that OWL 2 has
+    /// built in.
     pub skipped: u64,
 }
 
 impl Triples {
-    /// Replaces each place by its rank, which is the number of its name. The places are ones that `NameSet::add` gave.
-    /// It takes no memory.
+    /// Replaces each place by its rank, which is the number of its name. The places are ones that `NameSet::add`
+    /// gave. It takes no memory.
     pub fn ranked(&mut self, ranks: &Ranks)
         requires { All (λ fact. All (λ place. place < length ranks.now) (fact_names fact)) self.old.facts }
         ensures facts { self.new.facts ≡ map (renamed_fact (slice_index ranks.now)) self.old.facts }
@@ -38,16 +39,18 @@ impl Triples {
     }
 }
 
-/// Reads a text of RDF 1.1 N-Triples. Lines end by CR LF, CR, LF or the end of the bytes, and are counted from 1. A triple is skipped
-/// and counted where its object is a literal or its predicate is an annotation property that OWL 2 has built in. One that says that
-/// an individual is in `owl:NamedIndividual` or `owl:Thing` has no effect. Another one with the predicate `rdf:type` is a fact of a
-/// class, and the rest are facts of roles. After `Ok` the names are those before and then those of the facts, by first occurrence.
+/// Reads a text of RDF 1.1 N-Triples. Lines end by CR LF, CR, LF or the end of the bytes, and are counted from 1.
+/// A triple is skipped and counted where its object is a literal or its predicate is an annotation property that
+/// OWL 2 has built in. One that says that an individual is in `owl:NamedIndividual` or `owl:Thing` has no effect.
+/// Another one with the predicate `rdf:type` is a fact of a class, and the rest are facts of roles. After `Ok` the
+/// names are those before and then those of the facts, by first occurrence.
 ///
-/// The fault is that of the first line that has one: `Line` where it is no triple, no comment and not empty; `Blank` where a blank
-/// node begins where the subject or, behind two right terms, the object has to begin, whatever stands behind; `Reserved` where the
-/// triple says something and has a reserved name other than `owl:Nothing` as a class; `TooManyNames` where it has no other fault and
-/// its names don't fit. Memory is all else that may be wanting. After an error the names are those before, those of the lines before
-/// and maybe the first ones of the next fact.
+/// The fault is that of the first line that has one: `Line` where it is no triple, no comment and not empty;
+/// `Blank` where a blank node begins where the subject or, behind two right terms, the object has to begin,
+/// whatever stands behind; `Reserved` where the triple says something and has a reserved name other than
+/// `owl:Nothing` as a class; `TooManyNames` where it has no other fault and its names don't fit. Memory is all
+/// else that may be wanting. After an error the names are those before, those of some first lines and maybe the
+/// first ones of the fact of the next.
 pub fn read_triples(
     alloc: Global,
     bytes: &[u8],
@@ -59,10 +62,12 @@ pub fn read_triples(
         IsFirstFault bytes.now names.old fault) }
     ensures value_read { (facts : List Fact) (skipped : ℕ) (after : List Text) →
         IsValue bytes.now names.old facts skipped after →
-        MatchResult result (λ triples. (triples.facts ≡ facts) × (triples.skipped ≡ skipped) × (names.new ≡ after))
+        MatchResult result
+        (λ triples. (triples.facts ≡ facts) × (triples.skipped ≡ skipped) × (names.new ≡ after))
         (λ fault. fault ≡ TripleFault.NoMemory) }
     ensures fault_told { (first : TripleFault) → IsFirstFault bytes.now names.old first →
-        IfErr result (λ fault. (fault ≡ first) ⊎ (fault ≡ TripleFault.NoMemory)) × (IsOk result → ⊥) }
+        IfErr result (λ fault. (fault ≡ first) ⊎ (fault ≡ TripleFault.NoMemory))
+        × (IsOk result → ⊥) }
     ensures places { IfOk result (λ triples.
         All (λ fact. All (λ place. place < length names.new) (fact_names fact)) triples.facts) }
     ensures part { OnErr result (HoldsPart bytes.now names.old names.new) }

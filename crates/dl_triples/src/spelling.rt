@@ -150,7 +150,8 @@ pub(crate) fn spelled(bytes: &[u8], quoting: Quoting) -> (&[u8], bool)
     (rest, is_plain)
 }
 
-/// Writes the IRI that a text spells into the buffer, over what it held. After `NoMemory` the buffer holds any text.
+/// Writes the IRI that a text spells into the buffer, over what it held. After `NoMemory` the buffer holds any
+/// text.
 pub(crate) fn decode(bytes: &[u8], buffer: &mut String) -> Result<(), NoMemory>
     ensures { (value : List ℕ) → Spells Iri bytes.now value →
         OnOk result (string_bytes buffer.new ≡ value) }

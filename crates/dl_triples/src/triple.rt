@@ -2,7 +2,7 @@
 ghost use Rattle.std.specs.Prelude.{◌≡◌, ◌≢◌, ℕ, ◌+◌, ◌<◌, ◌^◌, List, [], ◌∷◌, ◌++◌, Option, Some, IfOk, IfErr, OnOk, OnErr, IsOk, MatchResult};
 ghost use Rattle.dl_names.specs.NameList.{Text, names_after, place_of};
 ghost use Rattle.dl_triples.specs.declared.meaning.Meaning.TheVariants as meanings;
-ghost use Rattle.dl_triples.specs.Meaning.{kind_of, meaning_of, names_of, all_named};
+ghost use Rattle.dl_triples.specs.Meaning.{kind_of, meaning_of, triple_names, all_named};
 ghost use Rattle.dl_triples.specs.Parts.{IsKept, IsKeptTriple};
 ghost use Rattle.dl_triples.specs.Reading.{Overflows};
 ghost use Rattle.dl_triples.specs.Adding.{NamesFirst, fault_at, AddsFact, AddsTriple, HasTripleFault};
@@ -30,7 +30,7 @@ pub(crate) fn read_triple(
     ensures fault { (s p : Text) (o : Option Text) → IsKeptTriple triple.entry s p o →
         IfErr result (λ fault. fault ≢ TripleFault.NoMemory → HasTripleFault s p o names.old n fault) }
     ensures first { (s p : Text) (o : Option Text) → IsKeptTriple triple.entry s p o →
-        OnErr result (NamesFirst names.old (names_of (meaning_of s p o) s p o) names.new) }
+        OnErr result (NamesFirst names.old (triple_names s p o) names.new) }
 {
     let Some(object) = triple.object else {
         triples.skipped += 1;
@@ -72,7 +72,8 @@ fn meaning_of(
     object: Iri,
     buffer: &mut String,
 ) -> Result<Meaning, NoMemory>
-    ensures { (s p o : Text) → IsKept subject.entry s → IsKept predicate.entry p → IsKept object.entry o →
+    ensures { (s p o : Text) →
+        IsKept subject.entry s → IsKept predicate.entry p → IsKept object.entry o →
         IfOk result (λ meaning. meaning ≡ meaning_of s p (Some o)) }
 {
     let subject = kind(subject, buffer)?;
@@ -121,8 +122,8 @@ fn add_class(
     ensures ok { (s p o : Text) → IsKept subject.entry s → IsKept object.entry o →
         OnOk result (AddsFact meanings.Class s p (Some o) names.old names.new facts.old facts.new) }
     ensures fits { OnOk result (Overflows names.old names.new → ⊥) }
-    ensures full { (s o : Text) → IsKept subject.entry s → IsKept object.entry o → result ≡ Err NameFault.Full →
-        Overflows names.old (all_named names.old (s ∷ o ∷ [])) }
+    ensures full { (s o : Text) → IsKept subject.entry s → IsKept object.entry o →
+        result ≡ Err NameFault.Full → Overflows names.old (all_named names.old (s ∷ o ∷ [])) }
     ensures first { (s o : Text) → IsKept subject.entry s → IsKept object.entry o →
         OnErr result (NamesFirst names.old (s ∷ o ∷ []) names.new) }
 {
@@ -139,12 +140,15 @@ fn add_link(
     buffer: &mut String,
     facts: &mut List<Fact>,
 ) -> Result<(), NameFault>
-    ensures ok { (s p o : Text) → IsKept triple.entry.subject s → IsKept triple.entry.predicate p → IsKept object.entry o →
+    ensures ok { (s p o : Text) →
+        IsKept triple.entry.subject s → IsKept triple.entry.predicate p → IsKept object.entry o →
         OnOk result (AddsFact meanings.Link s p (Some o) names.old names.new facts.old facts.new) }
     ensures fits { OnOk result (Overflows names.old names.new → ⊥) }
-    ensures full { (s p o : Text) → IsKept triple.entry.subject s → IsKept triple.entry.predicate p → IsKept object.entry o →
+    ensures full { (s p o : Text) →
+        IsKept triple.entry.subject s → IsKept triple.entry.predicate p → IsKept object.entry o →
         result ≡ Err NameFault.Full → Overflows names.old (all_named names.old (s ∷ p ∷ o ∷ [])) }
-    ensures first { (s p o : Text) → IsKept triple.entry.subject s → IsKept triple.entry.predicate p → IsKept object.entry o →
+    ensures first { (s p o : Text) →
+        IsKept triple.entry.subject s → IsKept triple.entry.predicate p → IsKept object.entry o →
         OnErr result (NamesFirst names.old (s ∷ p ∷ o ∷ []) names.new) }
 {
     let from = add(triple.subject, names, buffer)?;

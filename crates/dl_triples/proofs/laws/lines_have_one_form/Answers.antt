@@ -4,7 +4,7 @@ use Rattle.dl_triples.proofs.laws.lines_have_one_form.Goals as goal
 
 pub returns : goal.returns
 returns c = record {
-  terms = one_triple;
+  terms = λ line s p s' p' o o'. one_triple line s p o s' p' o';
   no_comment = triple_no_nothing;
   no_node = triple_no_node;
   no_node_in_comment = has_node_no_nothing;

@@ -1,6 +1,5 @@
 use Rattle.std.proofs.Common.{refl}
 use Rattle.std.proofs.lemmas.Bool.{false≢true}
-use Rattle.dl_triples.specs.Terms.{subject}
 use Rattle.dl_triples.proofs.FormLemmas.{no_first, no_second, node_third, no_third, no_end, whole}
 use Rattle.dl_triples.proofs.line.form_of.Goals as goal
 

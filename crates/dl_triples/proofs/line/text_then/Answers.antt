@@ -1,4 +1,4 @@
-use Rattle.std.proofs.Common.{◌≡◌, ◌∷◌, ◌++◌, ap, ◌∙◌, sym, subst, length, arith}
+use Rattle.std.proofs.Common.{ap, sym, subst, length, arith}
 use Rattle.std.specs.Str.{IsUtf8}
 use Rattle.dl_triples.proofs.TermLemmas.{closed_at, closed_text}
 use Rattle.dl_triples.proofs.line.text_then.Goals as goal

@@ -1,4 +1,4 @@
-use Rattle.std.proofs.Common.{◌∷◌, ◌++◌, [], Some, None, ap, ◌∙◌, sym, append-nil}
+use Rattle.std.proofs.Common.{◌∷◌, ◌++◌, [], Some, None, ap, ◌∙◌}
 use Rattle.std.proofs.lemmas.Slice.Eq.{strip_prefix_is}
 use Rattle.std.proofs.lemmas.Bool.Decides.{Decides-eqb}
 use Rattle.dl_triples.specs.Lines.{cr_lf}

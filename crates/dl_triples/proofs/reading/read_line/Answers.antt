@@ -1,4 +1,3 @@
-use Rattle.std.specs.Result.{OnOk}
 use Rattle.std.proofs.lemmas.Result.{on_err_weaker, IfErr-weaker}
 use Rattle.dl_triples.specs.Reading.{neither, blank, none}
 use Rattle.dl_triples.proofs.TripleLemmas.{line_nothing, line_triple, line_fault, line_first}

@@ -1,5 +1,4 @@
 use Rattle.std.proofs.Common.{refl, sym, ap, ◌∙◌, ◌++◌, [], subst, append-nil, string_bytes}
-use Rattle.std.specs.Char.{encode_utf8}
 use Rattle.dl_triples.specs.declared.spelling.Quoting.TheVariants.{Iri}
 use Rattle.dl_triples.specs.Parts.{SpelledThen}
 use Rattle.dl_triples.proofs.SpelledLemmas.{Passed, Passed-first, Passed-next, Passed-ends, escape_shorter}

@@ -1,4 +1,4 @@
-use Rattle.std.proofs.Common.{◌≡◌, ℕ, zero, suc, ◌<◌, ◌≤◌, ◌*◌, ◌+◌, ◌-◌, ◌^◌, arith, sym, subst, ap, ◌∙◌, length}
+use Rattle.std.proofs.Common.{◌≡◌, ℕ, zero, suc, ◌<◌, ◌≤◌, ◌*◌, ◌+◌, ◌-◌, ◌^◌, arith, sym, subst, ap, ◌∙◌}
 use Rattle.std.proofs.Math.Nat.{pow-suc, add-suc, add-zero}
 use Rattle.dl_triples.proofs.spelling.hex_value.Goals as goal
 

@@ -1,8 +1,5 @@
-use Rattle.std.proofs.Common.{◌≡◌, ap, ◌∙◌, sym, subst, Option, Some, Err}
-use Rattle.dl_names.specs.NameList.{Text}
-use Rattle.dl_names.specs.declared.fault.NameFault.TheVariants as name_faults
-use Rattle.dl_triples.specs.declared.meaning.Meaning.TheVariants as meanings
-use Rattle.dl_triples.specs.Meaning.{meaning_of, names_of, all_named}
+use Rattle.std.proofs.Common.{ap, ◌∙◌, sym, subst}
+use Rattle.dl_triples.specs.Meaning.{meaning_of, all_named}
 use Rattle.dl_triples.specs.Adding.{NamesFirst, reserved}
 use Rattle.dl_triples.specs.Reading.{Overflows}
 use Rattle.dl_triples.proofs.TripleLemmas.{kept_iri, kept_literal, adds_skipped, adds_nothing, adds_class, adds_link, told_ok, told_first, told_fault, class_names, link_names, class_free, link_free}
