@@ -1,5 +1,5 @@
 -- A buffer that has the first bytes of a file, and takes the next ones.
-use Rattle.std.proofs.Common.{◌≡◌, ℕ, ◌+◌, ◌≤◌, List, ◌++◌, length, take, drop, sym, ap, ◌∙◌, subst, arith, Option, None, Some, IfSome, length-take, take_all}
+use Rattle.std.proofs.Common.{◌≡◌, ℕ, ◌+◌, ◌≤◌, ◌<◌, List, ◌++◌, length, take, drop, sym, ap, ◌∙◌, subst, arith, Option, None, Some, IfSome, length-take, take_all}
 use Rattle.std.proofs.Math.Seq.{take-add}
 
 -- more than is there can't have been taken
@@ -26,3 +26,11 @@ told_front_grows now None name old new len n same front kept next = tt
 told_front_grows now (Some file_of) name old new len n same front kept next =
     let P : Option (List ℕ → List ℕ) → Type 0 = λ told. IfSome told (λ file_of. take n (drop len new) ≡ take n (drop len (file_of name))) in
     front_grows old new (file_of name) len n front kept (subst P same next)
+
+-- where more than so many first bytes of a file are there, it is longer than that
+pub told_longer : (told : Option (List ℕ → List ℕ)) (name buffer : List ℕ) (len most : ℕ) → len ≤ length buffer
+    → IfSome told (λ file_of. take len buffer ≡ take len (file_of name)) → most < len
+    → IfSome told (λ file_of. most < length (file_of name))
+told_longer None name buffer len most within front more = tt
+told_longer (Some file_of) name buffer len most within front more =
+    omega (arith, within_file buffer (file_of name) len within front, more)

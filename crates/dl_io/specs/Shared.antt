@@ -10,6 +10,10 @@ checksum name = fold (λ sum byte. (sum * 31 % 256 + byte) % 256) 0 name
 abbrev pub count_of : List ℕ → List ℕ → ℕ
 count_of counts name = slice_index counts (checksum name)
 
+-- the counts after one more fault in this one
+abbrev pub raised_at : List ℕ → ℕ → List ℕ
+raised_at counts at = slice_set counts at (raised_count (slice_index counts at))
+
 -- the counts after one more fault of this name
 abbrev pub raised_for : List ℕ → List ℕ → List ℕ
-raised_for name counts = slice_set counts (checksum name) (raised_count (count_of counts name))
+raised_for name counts = raised_at counts (checksum name)
