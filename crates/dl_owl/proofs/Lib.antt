@@ -1,0 +1,14 @@
+pub mod Turns
+pub mod Meaning
+pub mod IriLemmas
+pub mod Forth
+pub mod AxiomForth
+pub mod TextForth
+pub mod Back
+pub mod ListBack
+pub mod AxiomBack
+pub mod TextBack
+pub mod Exact
+pub mod TokenLists
+pub mod Whole
+pub mod Stops

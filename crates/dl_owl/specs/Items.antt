@@ -1,0 +1,40 @@
+-- What an item of an ontology adds to its document.
+use Rattle.std.specs.Prelude.{ℕ, [], ◌∷◌, ◌++◌, if◌then◌else◌}
+use Rattle.dl_terms.specs.declared.role.Role.{Role}
+use Rattle.dl_terms.specs.declared.axiom.Axiom.{Axiom}
+use Rattle.dl_terms.specs.declared.axiom.Fact.{Fact}
+use Rattle.dl_terms.specs.declared.axiom.Fact.TheVariants.{Link}
+use Rattle.dl_terms.specs.declared.role.Base.{Base}
+use Rattle.dl_terms.specs.declared.role.Base.TheVariants.{Named, Filler}
+use Rattle.dl_owl.specs.declared.document.Document.{Document}
+
+-- an axiom, a fact, a declared class, a declared role, or nothing
+pub data Item : Type 0 where
+  axiom_item : Axiom → Item
+  fact_item : Fact → Item
+  class_item : ℕ → Item
+  role_item : ℕ → Item
+  no_effect : Item
+
+abbrev pub empty_document : Document
+empty_document = record { axioms = []; facts = []; classes = []; roles = [] }
+
+-- the document with an item more
+abbrev pub with_item : Document → Item → Document
+with_item d (axiom_item a) = record d { axioms = d.axioms ++ a ∷ [] }
+with_item d (fact_item f) = record d { facts = d.facts ++ f ∷ [] }
+with_item d (class_item n) = record d { classes = d.classes ++ n ∷ [] }
+with_item d (role_item n) = record d { roles = d.roles ++ n ∷ [] }
+with_item d no_effect = d
+
+-- the object property of a role, which is no filler here
+abbrev pub property_of_base : Base → ℕ
+property_of_base (Named n) = n
+property_of_base (Filler n i c) = n
+
+abbrev pub property_of : Role → ℕ
+property_of r = property_of_base r.base
+
+-- a role joins two individuals: by its object property, and turned where it is an inverse
+abbrev pub link : Role → ℕ → ℕ → Fact
+link r a b = if r.inverse then Link (property_of r) b a else Link (property_of r) a b

@@ -1,0 +1,13 @@
+pub mod Symbols
+pub mod Prefixes
+pub mod NamesNext
+pub mod Annotations
+pub mod Expressions
+pub mod Items
+pub mod Axioms
+pub mod Ontologies
+pub mod Causes
+pub mod Expected
+pub mod Refused
+pub mod Steps
+pub mod Reading

@@ -1,0 +1,12 @@
+// Ontologies in OWL 2 QL: the functional-style syntax, and the text of an axiom.
+#![tactic(auto)]
+
+mod document;
+mod fault;
+mod laws;
+
+pub use document::Document;
+pub use fault::{Construct, OwlFault};
+pub use laws::{
+    faults_come_at_their_tokens, reading_gives_one_result, values_are_those_of_the_grammar,
+};
