@@ -12,3 +12,4 @@ pub mod Exact
 pub mod TokenLists
 pub mod Whole
 pub mod Stops
+pub mod TextLemmas

@@ -11,3 +11,4 @@ pub mod Expected
 pub mod Refused
 pub mod Steps
 pub mod Reading
+pub mod AxiomText

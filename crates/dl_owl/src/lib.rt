@@ -4,9 +4,11 @@
 mod document;
 mod fault;
 mod laws;
+mod text;
 
 pub use document::Document;
 pub use fault::{Construct, OwlFault};
 pub use laws::{
     faults_come_at_their_tokens, reading_gives_one_result, values_are_those_of_the_grammar,
 };
+pub use text::axiom_text;
