@@ -1,9 +1,12 @@
 // Why a text is no ontology of the profile.
+ghost use Rattle.std.specs.Prelude.{◌≡◌};
+ghost use Rattle.dl_owl.specs.Causes.{construct_words};
+
 use dl_lex::Keyword;
-use dl_terms::NoMemory;
+use std::fmt;
 use thiserror::Error;
 
-/// What is left out, in the words in which it is reported.
+/// A construct that is refused by name.
 #[derive(Clone, Copy, PartialEq, Eq)]
 pub enum Construct {
     /// The construct that a keyword begins.
@@ -14,24 +17,57 @@ pub enum Construct {
     AnonymousIndividual,
 }
 
+impl Construct {
+    /// The words in which it is reported.
+    pub fn text(self) -> &'static str
+        ensures { result.now ≡ construct_words self }
+    {
+        match self {
+            Construct::Keyword(keyword) => keyword.text(),
+            Construct::Thing => "owl:Thing",
+            Construct::AnonymousIndividual => "anonymous individual",
+        }
+    }
+}
+
+impl fmt::Display for Construct {
+    fn fmt<W: fmt::Write>(&self, f: &mut fmt::Formatter<W>) -> fmt::Result {
+        f.write_str(self.text())
+    }
+}
+
+impl fmt::Debug for Construct {
+    fn fmt<W: fmt::Write>(&self, f: &mut fmt::Formatter<W>) -> fmt::Result {
+        f.write_str(self.text())
+    }
+}
+
 /// Why a text gave no value: the first token at which reading can't go on, by its first byte `at`, counted from 0. Of
 /// several causes on one token the first in this order is told.
-#[derive(Clone, Copy, PartialEq, Eq)]
+#[derive(Clone, Copy, Debug, PartialEq, Eq, Error)]
 pub enum OwlFault {
     /// No token begins there, or the token fits no rule of the grammar there.
+    #[error("byte {at}: syntax")]
     Syntax { at: usize },
     /// An opening parenthesis inside 64 open ones.
+    #[error("byte {at}: too deep")]
     TooDeep { at: usize },
     /// A short IRI whose prefix isn't declared.
+    #[error("byte {at}: unknown prefix")]
     PrefixUnknown { at: usize },
     /// The token begins a construct that is not in OWL 2 QL.
-    NotQl { at: usize, what: Keyword },
+    #[error("byte {at}: not in OWL 2 QL: {what}")]
+    NotQl { at: usize, what: Construct },
     /// The token begins a construct that is left out.
+    #[error("byte {at}: left out: {what}")]
     LeftOut { at: usize, what: Construct },
     /// A name of one of the reserved namespaces where none may stand.
+    #[error("byte {at}: reserved name")]
     Reserved { at: usize },
     /// The name set is full and lacks this name.
+    #[error("byte {at}: too many names")]
     TooManyNames { at: usize },
     /// Memory was refused.
+    #[error("no memory")]
     NoMemory,
 }
