@@ -13,3 +13,5 @@ pub mod TokenLists
 pub mod Whole
 pub mod Stops
 pub mod TextLemmas
+pub mod WalkLemmas
+pub mod CursorLemmas

@@ -12,3 +12,4 @@ pub mod Refused
 pub mod Steps
 pub mod Reading
 pub mod AxiomText
+pub mod Walk

@@ -1,0 +1,186 @@
+-- Steps of a reader over the tokens, one after another.
+use Rattle.std.proofs.Common.{◌≡◌, ◌≢◌, ℕ, suc, zero, ◌≤◌, Bool, true, false, cond, nat_le, not, ◌&&◌, ◌⊎◌, inl, inr, Result, Ok, Err, List, [], ◌∷◌, if◌then◌else◌, refl, sym, ap, ◌∙◌, subst, slice_range}
+use Rattle.dl_lex.specs.declared.token.TokenKind.{TokenKind}
+use Rattle.dl_lex.specs.declared.token.TokenKind.TheVariants.{Open, Close, Equals, Caret, Iri, Text, Lang, Node, Short, Number, Word, End}
+use Rattle.dl_lex.specs.declared.token.Token.{Token}
+use Rattle.dl_lex.specs.Grammar.{IsNextToken, IsFaultAt}
+use Rattle.dl_names.specs.NameList as name_list
+use Rattle.dl_names.specs.NameList.{names_after, place_of}
+use Rattle.dl_owl.specs.declared.fault.OwlFault.{OwlFault}
+use Rattle.dl_owl.specs.declared.fault.OwlFault.TheVariants as fault
+use Rattle.dl_owl.specs.Symbols as symbols
+use Rattle.dl_owl.specs.Symbols.{Symbol, no_token, Placed, placed, symbol_of, AreTokens}
+use Rattle.dl_owl.specs.Prefixes.{Prefixes}
+use Rattle.dl_owl.specs.Causes.{Cause, syntax, too_deep, too_many_names, fault_of}
+use Rattle.dl_owl.specs.Expected.{Expected, prologue, prefix_name, prefix_equals, prefix_iri, title, annotations_first, items, lone_axiom, finish, done, open_then, close_then, annotations_then, iri_then, subject_then, value_then, value_end, property_then, role_then, first_role, second_role, sub_then, sup_then, thing_then, filler_then, roles_close, subs_close, sups_close, individual_then, unnamed_then, different_close, class_then, declared_class, entity_then, Move, goes, takes_name, declares, refuses}
+use Rattle.dl_owl.specs.Steps.{move_of}
+use Rattle.dl_owl.specs.Reading.{Met, Outcome, gives, fails, depth_after, is_too_deep, at_depth, is_full, outcome_of, outcome}
+use Rattle.dl_owl.specs.Walk as walk
+use Rattle.dl_owl.specs.Walk.{Spot, Here, here, met_of, FromToken, Goes, FaultsBy, Faults}
+
+-- the symbol of the next token
+abbrev pub symbol_at : Spot → Symbol
+symbol_at s = (placed s.bytes s.token).symbol
+
+-- ---- one after another
+
+goes_tokens : (bytes : List ℕ) (all : Bool) (place : ℕ) (t : Token) (tokens : List Placed) → IsNextToken bytes place t
+    → FromToken bytes all t tokens → AreTokens bytes all place tokens
+goes_tokens bytes all place t tokens next (walk.FromToken.last end) = symbols.AreTokens.last t next end
+goes_tokens bytes all place t tokens next (walk.FromToken.more not them) = symbols.AreTokens.token t next not them
+
+pub goes-then : (e : Expected) (a : Here) (f : Expected) (b : Here) (g : Expected) (c : Here) → Goes e a f b → Goes f b g c → Goes e a g c
+goes-then e a f b g c first second = record {
+  same = second.same ∙ first.same;
+  on = λ all rest from.
+      let middle =
+      second.on all rest (subst (λ bytes. FromToken bytes all c.spot.token rest) (sym first.same) from) in
+      let front =
+      first.on all middle.0 (subst (λ bytes. FromToken bytes all b.spot.token middle.0) first.same middle.1.0) in
+      (front.0, (front.1.0, front.1.1 ∙ middle.1.1));
+}
+
+pub goes-faults : (e : Expected) (a : Here) (f : Expected) (b : Here) (fault : OwlFault) → Goes e a f b → Faults f b fault → Faults e a fault
+goes-faults e a f b fault first (inl none) = inl none
+goes-faults e a f b fault first (inr by) =
+    let front = first.on false by.tokens (subst (λ bytes. FromToken bytes false b.spot.token by.tokens) first.same by.are) in
+    inr
+    (record {
+      cause = by.cause;
+      at = by.at;
+      tokens = front.0;
+      is = by.is;
+      are = front.1.0;
+      comes = front.1.1 ∙ by.comes;
+    })
+
+-- ---- a token that fits
+
+module _ (e next : Expected) (s : Spot) (p : Prefixes) (names : List name_list.Text) (is : move_of p e (symbol_at s) ≡ goes next)
+  (flat : is_too_deep (symbol_at s) s.depth ≡ false) (some : s.token.kind ≢ End) where
+  fits : (rest : List Placed)
+      → outcome e (met_of (here s p names)) (placed s.bytes s.token ∷ rest)
+          ≡ outcome next (record { prefixes = p; names = names; depth = depth_after (symbol_at s) s.depth }) rest
+  fits rest =
+      ap (outcome_of (met_of (here s p names)) (placed s.bytes s.token) (λ f later. outcome f later rest)) is
+      ∙ ap (λ b. cond b (fails too_deep s.token.start)
+          (outcome next (record { prefixes = p; names = names; depth = depth_after (symbol_at s) s.depth }) rest)) flat
+
+  pub goes-fit : (t : Token) → IsNextToken s.bytes s.token.end t
+      → Goes e (here s p names) next (here (record { bytes = s.bytes; token = t; depth = depth_after (symbol_at s) s.depth }) p names)
+  goes-fit t after = record {
+    same = refl;
+    on = λ all rest from.
+        (placed s.bytes s.token ∷ rest, (walk.FromToken.more some (goes_tokens s.bytes all s.token.end t rest after from), fits rest));
+  }
+
+  pub faults-behind : (at : ℕ) → IsFaultAt s.bytes s.token.end at → move_of p next no_token ≡ refuses syntax
+      → Faults e (here s p names) (fault.Syntax at)
+  faults-behind at none refused =
+      inr
+      (record {
+        cause = syntax;
+        at = at;
+        tokens = placed s.bytes s.token ∷ record { symbol = no_token; at = at } ∷ [];
+        is = refl;
+        are = walk.FromToken.more some (symbols.AreTokens.fault at none);
+        comes =
+            fits (record { symbol = no_token; at = at } ∷ [])
+            ∙ ap
+            (outcome_of (record { prefixes = p; names = names; depth = depth_after (symbol_at s) s.depth }) (record { symbol = no_token; at = at })
+            (λ f later. outcome f later [])) refused;
+      })
+
+-- ---- a token that is refused
+
+one_token : (bytes : List ℕ) (t : Token) → FromToken bytes false t (placed bytes t ∷ [])
+one_token bytes t = by t.kind refl
+  where
+    other : t.kind ≢ End → FromToken bytes false t (placed bytes t ∷ [])
+    other not = walk.FromToken.more not (symbols.AreTokens.nothing refl)
+
+    by : (kind : TokenKind) → t.kind ≡ kind → FromToken bytes false t (placed bytes t ∷ [])
+    by End is = walk.FromToken.last is
+    by Open is = other (λ end. let apart : Open ≡ End = sym is ∙ end in cc)
+    by Close is = other (λ end. let apart : Close ≡ End = sym is ∙ end in cc)
+    by Equals is = other (λ end. let apart : Equals ≡ End = sym is ∙ end in cc)
+    by Caret is = other (λ end. let apart : Caret ≡ End = sym is ∙ end in cc)
+    by Iri is = other (λ end. let apart : Iri ≡ End = sym is ∙ end in cc)
+    by Text is = other (λ end. let apart : Text ≡ End = sym is ∙ end in cc)
+    by Lang is = other (λ end. let apart : Lang ≡ End = sym is ∙ end in cc)
+    by Node is = other (λ end. let apart : Node ≡ End = sym is ∙ end in cc)
+    by Short is = other (λ end. let apart : Short ≡ End = sym is ∙ end in cc)
+    by Number is = other (λ end. let apart : Number ≡ End = sym is ∙ end in cc)
+    by (Word k) is = other (λ end. let apart : Word k ≡ End = sym is ∙ end in cc)
+
+pub faults-refused : (e : Expected) (s : Spot) (p : Prefixes) (names : List name_list.Text) (cause : Cause)
+    → move_of p e (symbol_at s) ≡ refuses cause → Faults e (here s p names) (fault_of cause s.token.start)
+faults-refused e s p names cause is =
+    inr
+    (record {
+      cause = cause;
+      at = s.token.start;
+      tokens = placed s.bytes s.token ∷ [];
+      is = refl;
+      are = one_token s.bytes s.token;
+      comes = ap (outcome_of (met_of (here s p names)) (placed s.bytes s.token) (λ f later. outcome f later [])) is;
+    })
+
+pub faults-deep : (e next : Expected) (s : Spot) (p : Prefixes) (names : List name_list.Text)
+    → move_of p e (symbol_at s) ≡ goes next → is_too_deep (symbol_at s) s.depth ≡ true
+    → Faults e (here s p names) (fault.TooDeep s.token.start)
+faults-deep e next s p names is deep =
+    inr
+    (record {
+      cause = too_deep;
+      at = s.token.start;
+      tokens = placed s.bytes s.token ∷ [];
+      is = refl;
+      are = one_token s.bytes s.token;
+      comes =
+          ap (outcome_of (met_of (here s p names)) (placed s.bytes s.token) (λ f later. outcome f later [])) is
+          ∙ ap (λ b. cond b (fails too_deep s.token.start)
+              (outcome next (record { prefixes = p; names = names; depth = depth_after (symbol_at s) s.depth }) [])) deep;
+    })
+
+-- where no token begins, nothing else is to blame
+pub no_token_refused : (p : Prefixes) (e : Expected) → move_of p e no_token ≡ refuses syntax
+no_token_refused p prologue = refl
+no_token_refused p prefix_name = refl
+no_token_refused p (prefix_equals name) = refl
+no_token_refused p (prefix_iri name) = refl
+no_token_refused p (title zero) = refl
+no_token_refused p (title (suc n)) = refl
+no_token_refused p annotations_first = refl
+no_token_refused p (items d) = refl
+no_token_refused p lone_axiom = refl
+no_token_refused p (finish d) = refl
+no_token_refused p (done d) = refl
+no_token_refused p (open_then e) = refl
+no_token_refused p (close_then e) = refl
+no_token_refused p (annotations_then e) = no_token_refused p e
+no_token_refused p (iri_then e) = refl
+no_token_refused p (subject_then e) = refl
+no_token_refused p (value_then e) = refl
+no_token_refused p (value_end e) = refl
+no_token_refused p (property_then k) = refl
+no_token_refused p (role_then k) = refl
+no_token_refused p (first_role k) = refl
+no_token_refused p (second_role k e) = refl
+no_token_refused p (sub_then k) = refl
+no_token_refused p (sup_then k) = refl
+no_token_refused p (thing_then e) = refl
+no_token_refused p (filler_then r k) = refl
+no_token_refused p (roles_close zero before k) = refl
+no_token_refused p (roles_close (suc n) before k) = refl
+no_token_refused p (subs_close zero before k) = refl
+no_token_refused p (subs_close (suc n) before k) = refl
+no_token_refused p (sups_close zero before k) = refl
+no_token_refused p (sups_close (suc n) before k) = refl
+no_token_refused p (individual_then k) = refl
+no_token_refused p (unnamed_then e) = refl
+no_token_refused p (different_close zero before e) = refl
+no_token_refused p (different_close (suc n) before e) = refl
+no_token_refused p (class_then k) = refl
+no_token_refused p (declared_class k) = refl
+no_token_refused p (entity_then k) = refl

@@ -1,0 +1,81 @@
+-- Where a reader of an ontology stands, and how it goes on from there to another place or comes to a fault.
+use Rattle.std.specs.Prelude.{◌≡◌, ◌≢◌, ◌⊎◌, ℕ, Bool, false, Result, Ok, Err, List, [], ◌∷◌}
+use Rattle.dl_lex.specs.declared.token.TokenKind.TheVariants.{End}
+use Rattle.dl_lex.specs.declared.token.Token.{Token}
+use Rattle.dl_lex.specs.Grammar.{IsNextToken, IsFaultAt}
+use Rattle.dl_names.specs.NameList.{Text}
+use Rattle.dl_owl.specs.declared.fault.OwlFault.{OwlFault}
+use Rattle.dl_owl.specs.declared.fault.OwlFault.TheVariants.{Syntax, NoMemory}
+use Rattle.dl_owl.specs.Symbols.{Placed, placed, AreTokens}
+use Rattle.dl_owl.specs.Prefixes.{Prefixes}
+use Rattle.dl_owl.specs.Causes.{Cause, fault_of}
+use Rattle.dl_owl.specs.Expected.{Expected}
+use Rattle.dl_owl.specs.Reading.{Met, fails, outcome}
+
+-- the bytes, the token that stands next, and how many parentheses are open before it
+pub record Spot : Type 0 where
+  pub bytes : List ℕ
+  pub token : Token
+  pub depth : ℕ
+
+-- with what else is met so far
+pub record Here : Type 0 where
+  pub spot : Spot
+  pub prefixes : Prefixes
+  pub names : List Text
+
+abbrev pub here : Spot → Prefixes → List Text → Here
+here spot p names = record { spot = spot; prefixes = p; names = names }
+
+abbrev pub met_of : Here → Met
+met_of h = record { prefixes = h.prefixes; names = h.names; depth = h.spot.depth }
+
+-- these are the tokens from this one on
+pub data FromToken (bytes : List ℕ) (all : Bool) (t : Token) : List Placed → Type 0 where
+  last : t.kind ≡ End → FromToken bytes all t (placed bytes t ∷ [])
+  more : {rest : List Placed} → t.kind ≢ End → AreTokens bytes all t.end rest → FromToken bytes all t (placed bytes t ∷ rest)
+
+-- where this is expected here, that is expected there: whatever tokens stand there, with those before them they come to the same
+pub record Goes (e : Expected) (from : Here) (later : Expected) (to : Here) : Type 0 where
+  pub same : to.spot.bytes ≡ from.spot.bytes
+  pub on : (all : Bool) (rest : List Placed) → FromToken from.spot.bytes all to.spot.token rest
+      → (tokens : List Placed) × (FromToken from.spot.bytes all from.spot.token tokens
+          × (outcome e (met_of from) tokens ≡ outcome later (met_of to) rest))
+
+-- where this is expected here, reading comes to this fault, or memory is refused
+pub record FaultsBy (e : Expected) (from : Here) (fault : OwlFault) : Type 0 where
+  pub cause : Cause
+  pub at : ℕ
+  pub tokens : List Placed
+  pub is : fault ≡ fault_of cause at
+  pub are : FromToken from.spot.bytes false from.spot.token tokens
+  pub comes : outcome e (met_of from) tokens ≡ fails cause at
+
+abbrev pub Faults : Expected → Here → OwlFault → Type 0
+Faults e from fault = (fault ≡ NoMemory) ⊎ FaultsBy e from fault
+
+-- what stands next is read, with its value, up to another place
+abbrev pub Reads : {V : Type 0} → ((V → Expected) → Expected) → Here → Here → Result V OwlFault → Type 0
+Reads {V} e from to (Ok v) = (k : V → Expected) → Goes (e k) from (k v) to
+Reads {V} e from to (Err fault) = (k : V → Expected) → Faults (e k) from fault
+
+-- the same of what has no value
+abbrev pub Passes : (Expected → Expected) → Here → Here → Result (Unit {0}) OwlFault → Type 0
+Passes e from to (Ok _) = (k : Expected) → Goes (e k) from k to
+Passes e from to (Err fault) = (k : Expected) → Faults (e k) from fault
+
+-- the next token is passed over
+pub record Moved (old new : Spot) : Type 0 where
+  pub bytes : new.bytes ≡ old.bytes
+  pub depth : new.depth ≡ old.depth
+  pub next : IsNextToken old.bytes old.token.end new.token
+
+-- where none is the next, that is the fault
+pub record NoneNext (old : Spot) (fault : OwlFault) : Type 0 where
+  pub at : ℕ
+  pub is : fault ≡ Syntax at
+  pub none : IsFaultAt old.bytes old.token.end at
+
+abbrev pub Advances : Spot → Spot → Result (Unit {0}) OwlFault → Type 0
+Advances old new (Ok _) = Moved old new
+Advances old new (Err fault) = NoneNext old fault
