@@ -36,7 +36,7 @@ moved_is : (old new : Spot) → Moved old new → new ≡ (let s : Spot = record
 moved_is old new m = λ i. record { bytes = m.bytes i; token = new.token; depth = m.depth i }
 
 module _ (e next : Expected) (s : Spot) (p : Prefixes) (names : List name_list.Text) (is : move_of p e (symbol_at s) ≡ goes next)
-  (flat : is_too_deep (symbol_at s) s.depth ≡ false) (some : s.token.kind ≢ End) where
+    (flat : is_too_deep (symbol_at s) s.depth ≡ false) (some : s.token.kind ≢ End) where
   pub advance-goes : (new later : Spot) → Moved s new
       → later ≡ (let t : Spot = record { bytes = new.bytes; token = new.token; depth = depth_after (symbol_at s) new.depth } in t)
       → Goes e (here s p names) next (here later p names)

@@ -57,14 +57,14 @@ goes-faults e a f b fault first (inr by) =
 -- ---- a token that fits
 
 module _ (e next : Expected) (s : Spot) (p : Prefixes) (names : List name_list.Text) (is : move_of p e (symbol_at s) ≡ goes next)
-  (flat : is_too_deep (symbol_at s) s.depth ≡ false) (some : s.token.kind ≢ End) where
+    (flat : is_too_deep (symbol_at s) s.depth ≡ false) (some : s.token.kind ≢ End) where
   fits : (rest : List Placed)
       → outcome e (met_of (here s p names)) (placed s.bytes s.token ∷ rest)
-          ≡ outcome next (record { prefixes = p; names = names; depth = depth_after (symbol_at s) s.depth }) rest
+      ≡ outcome next (record { prefixes = p; names = names; depth = depth_after (symbol_at s) s.depth }) rest
   fits rest =
       ap (outcome_of (met_of (here s p names)) (placed s.bytes s.token) (λ f later. outcome f later rest)) is
       ∙ ap (λ b. cond b (fails too_deep s.token.start)
-          (outcome next (record { prefixes = p; names = names; depth = depth_after (symbol_at s) s.depth }) rest)) flat
+      (outcome next (record { prefixes = p; names = names; depth = depth_after (symbol_at s) s.depth }) rest)) flat
 
   pub goes-fit : (t : Token) → IsNextToken s.bytes s.token.end t
       → Goes e (here s p names) next (here (record { bytes = s.bytes; token = t; depth = depth_after (symbol_at s) s.depth }) p names)
@@ -140,7 +140,7 @@ faults-deep e next s p names is deep =
       comes =
           ap (outcome_of (met_of (here s p names)) (placed s.bytes s.token) (λ f later. outcome f later [])) is
           ∙ ap (λ b. cond b (fails too_deep s.token.start)
-              (outcome next (record { prefixes = p; names = names; depth = depth_after (symbol_at s) s.depth }) [])) deep;
+          (outcome next (record { prefixes = p; names = names; depth = depth_after (symbol_at s) s.depth }) [])) deep;
     })
 
 -- where no token begins, nothing else is to blame

@@ -40,7 +40,7 @@ pub record Goes (e : Expected) (from : Here) (later : Expected) (to : Here) : Ty
   pub same : to.spot.bytes ≡ from.spot.bytes
   pub on : (all : Bool) (rest : List Placed) → FromToken from.spot.bytes all to.spot.token rest
       → (tokens : List Placed) × (FromToken from.spot.bytes all from.spot.token tokens
-          × (outcome e (met_of from) tokens ≡ outcome later (met_of to) rest))
+      × (outcome e (met_of from) tokens ≡ outcome later (met_of to) rest))
 
 -- where this is expected here, reading comes to this fault, or memory is refused
 pub record FaultsBy (e : Expected) (from : Here) (fault : OwlFault) : Type 0 where

@@ -11,6 +11,8 @@ mod lex;
 #[cfg(test)]
 mod names;
 #[cfg(test)]
+mod owl;
+#[cfg(test)]
 mod reach;
 #[cfg(test)]
 mod run;
