@@ -1,19 +1,22 @@
 -- Parentheses at a cursor.
-use Rattle.std.proofs.Common.{◌≡◌, ◌≢◌, ℕ, suc, zero, ◌≤◌, Bool, true, false, cond, IsTrue, ◌↔◌, ◌⊎◌, inl, inr, Result, Ok, Err, IsErr, IsErrAnd, List, [], ◌∷◌, refl, sym, ap, ◌∙◌, subst, slice_range, true≢false}
+use Rattle.std.proofs.Common.{◌≡◌, ◌≢◌, ℕ, Bool, true, false, cond, IsTrue, inr, Result, IsErrAnd, List, [], ◌∷◌, refl, sym, ap, ◌∙◌, subst, slice_range, true≢false}
 use Rattle.std.proofs.lemmas.Result.{err_from_is_err_and}
 use Rattle.dl_lex.specs.declared.token.TokenKind.{TokenKind}
-use Rattle.dl_lex.specs.declared.token.TokenKind.TheVariants.{Open, Close, Equals, Caret, Iri, Text, Lang, Node, Short, Number, Word, End}
+use Rattle.dl_lex.specs.declared.token.TokenKind.TheVariants.{Open, Close, End}
 use Rattle.dl_names.specs.NameList as name_list
+use Rattle.dl_names.specs.NameList.{names_after, place_of}
 use Rattle.dl_owl.specs.declared.fault.OwlFault.{OwlFault}
 use Rattle.dl_owl.specs.declared.fault.OwlFault.TheVariants as fault
-use Rattle.dl_owl.specs.Symbols.{Symbol, opening, closing, symbol_of, placed}
+use Rattle.dl_owl.specs.Symbols as symbols
+use Rattle.dl_owl.specs.Symbols.{Symbol, opening, closing, no_token, Placed, symbol_of, placed, AreTokens}
 use Rattle.dl_owl.specs.Prefixes.{Prefixes}
-use Rattle.dl_owl.specs.Causes.{syntax}
-use Rattle.dl_owl.specs.Expected.{Expected, open_then, close_then, Move, goes, refuses}
+use Rattle.dl_owl.specs.Causes.{syntax, too_deep, too_many_names}
+use Rattle.dl_owl.specs.Expected.{Expected, open_then, close_then, goes, takes_name, refuses}
 use Rattle.dl_owl.specs.Steps.{move_of}
-use Rattle.dl_owl.specs.Reading.{depth_after, is_too_deep}
-use Rattle.dl_owl.specs.Walk.{Spot, Here, here, Goes, Faults, Moved, NoneNext, Reads, Passes}
-use Rattle.dl_owl.proofs.WalkLemmas.{symbol_at, goes-fit, faults-behind, faults-refused, faults-deep, no_token_refused}
+use Rattle.dl_owl.specs.Reading.{fails, depth_after, is_too_deep, is_full, outcome_of, outcome}
+use Rattle.dl_owl.specs.Walk as walk
+use Rattle.dl_owl.specs.Walk.{Spot, Here, here, met_of, FromToken, Goes, Faults, Moved, NoneNext, Reads, Passes}
+use Rattle.dl_owl.proofs.WalkLemmas.{symbol_at, goes_tokens, one_token, goes-fit, faults-behind, faults-refused, faults-deep, no_token_refused}
 
 -- ---- the exit of a `?`
 
@@ -115,3 +118,74 @@ module _ (s : Spot) (p : Prefixes) (names : List name_list.Text) (k : Expected) 
         advance-faults (close_then k) k s p names (ap (move_of p (close_then k)) (closing_is is))
         (ap (λ t. is_too_deep t s.depth) (closing_is is)) (λ end. let apart : Close ≡ End = sym is ∙ end in cc)
         fault none
+
+-- ---- a name that is taken
+
+module _ (e : Expected) (s : Spot) (p : Prefixes) (names : List name_list.Text) (text : name_list.Text) (k : ℕ → Expected)
+    (is : move_of p e (symbol_at s) ≡ takes_name text k) (flat : (t : ℕ) → is_too_deep (symbol_at s) t ≡ false)
+    (level : depth_after (symbol_at s) s.depth ≡ s.depth) (some : s.token.kind ≢ End) where
+  taken : is_full names text ≡ false → (rest : List Placed)
+      → outcome e (met_of (here s p names)) (placed s.bytes s.token ∷ rest)
+      ≡ outcome (k (place_of (names_after names text) text)) (record { prefixes = p; names = names_after names text; depth = s.depth }) rest
+  taken room rest =
+      ap (outcome_of (met_of (here s p names)) (placed s.bytes s.token) (λ f later. outcome f later rest)) is
+      ∙ ap (λ b. cond b (fails too_deep s.token.start)
+      (cond (is_full names text) (fails too_many_names s.token.start)
+      (outcome (k (place_of (names_after names text) text)) (record { prefixes = p; names = names_after names text; depth = depth_after (symbol_at s) s.depth }) rest)))
+      (flat s.depth)
+      ∙ ap (λ b. cond b (fails too_many_names s.token.start)
+      (outcome (k (place_of (names_after names text) text)) (record { prefixes = p; names = names_after names text; depth = depth_after (symbol_at s) s.depth }) rest))
+      room
+      ∙ ap (λ d. outcome (k (place_of (names_after names text) text)) (record { prefixes = p; names = names_after names text; depth = d }) rest) level
+
+  pub name-goes : is_full names text ≡ false → (new : Spot) → Moved s new
+      → Goes e (here s p names) (k (place_of (names_after names text) text)) (here new p (names_after names text))
+  name-goes room new m = record {
+    same = m.bytes;
+    on = λ all rest from. (
+      placed s.bytes s.token ∷ rest,
+      (
+        walk.FromToken.more some (goes_tokens s.bytes all s.token.end new.token rest m.next from),
+        taken room rest
+            ∙ ap (λ d. outcome (k (place_of (names_after names text) text)) (record { prefixes = p; names = names_after names text; depth = d }) rest) (sym m.depth),
+      ),
+    );
+  }
+
+  pub name-full : is_full names text ≡ true → Faults e (here s p names) (fault.TooManyNames s.token.start)
+  name-full full =
+      inr
+      (record {
+        cause = too_many_names;
+        at = s.token.start;
+        tokens = placed s.bytes s.token ∷ [];
+        is = refl;
+        are = one_token s.bytes s.token;
+        comes =
+            ap (outcome_of (met_of (here s p names)) (placed s.bytes s.token) (λ f later. outcome f later [])) is
+            ∙ ap (λ b. cond b (fails too_deep s.token.start)
+            (cond (is_full names text) (fails too_many_names s.token.start)
+            (outcome (k (place_of (names_after names text) text)) (record { prefixes = p; names = names_after names text; depth = depth_after (symbol_at s) s.depth }) [])))
+            (flat s.depth)
+            ∙ ap (λ b. cond b (fails too_many_names s.token.start)
+            (outcome (k (place_of (names_after names text) text)) (record { prefixes = p; names = names_after names text; depth = depth_after (symbol_at s) s.depth }) []))
+            full;
+      })
+
+  pub name-faults : is_full names text ≡ false → (fault : OwlFault) → NoneNext s fault → Faults e (here s p names) fault
+  name-faults room fault none =
+      subst (Faults e (here s p names)) (sym none.is)
+      (inr
+      (record {
+        cause = syntax;
+        at = none.at;
+        tokens = placed s.bytes s.token ∷ record { symbol = no_token; at = none.at } ∷ [];
+        is = refl;
+        are = walk.FromToken.more some (symbols.AreTokens.fault none.at none.none);
+        comes =
+            taken room (record { symbol = no_token; at = none.at } ∷ [])
+            ∙ ap
+            (outcome_of (record { prefixes = p; names = names_after names text; depth = s.depth }) (record { symbol = no_token; at = none.at })
+            (λ f later. outcome f later []))
+            (no_token_refused p (k (place_of (names_after names text) text)));
+      }))

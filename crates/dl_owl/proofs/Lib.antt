@@ -15,3 +15,4 @@ pub mod Stops
 pub mod TextLemmas
 pub mod WalkLemmas
 pub mod CursorLemmas
+pub mod SpanLemmas

@@ -1,8 +1,7 @@
 -- Texts of names, and texts that are appended one after another.
-use Rattle.std.proofs.Common.{◌≡◌, ℕ, suc, ◌<◌, arith, Bool, true, false, cond, Some, List, [], ◌∷◌, ◌++◌, All, length, map, take, drop, get_or, ◌-◌, ◌≤◌, codes, slice_get, unwrap_or, refl, sym, ap, subst, ◌∙◌, append_assoc, append-nil}
+use Rattle.std.proofs.Common.{◌≡◌, ℕ, suc, ◌<◌, arith, true, false, cond, Some, List, [], ◌∷◌, ◌++◌, All, length, map, take, drop, get_or, ◌-◌, ◌≤◌, codes, slice_get, unwrap_or, refl, sym, ap, subst, ◌∙◌, append_assoc}
 use Rattle.std.specs.List.{flat_map}
 use Rattle.std.specs.Str.{bytes_eq}
-use Rattle.dl_lex.specs.declared.keyword.Keyword.{Keyword}
 use Rattle.dl_names.specs.NameList.{Text}
 use Rattle.dl_names.specs.Iris.{owl_nothing}
 use Rattle.std.proofs.lemmas.List.{take_all}

@@ -1,5 +1,5 @@
 -- Steps of a reader over the tokens, one after another.
-use Rattle.std.proofs.Common.{◌≡◌, ◌≢◌, ℕ, suc, zero, ◌≤◌, Bool, true, false, cond, nat_le, not, ◌&&◌, ◌⊎◌, inl, inr, Result, Ok, Err, List, [], ◌∷◌, if◌then◌else◌, refl, sym, ap, ◌∙◌, subst, slice_range}
+use Rattle.std.proofs.Common.{◌≡◌, ◌≢◌, ℕ, suc, zero, Bool, true, false, cond, not, inl, inr, List, [], ◌∷◌, refl, sym, ap, ◌∙◌, subst}
 use Rattle.dl_lex.specs.declared.token.TokenKind.{TokenKind}
 use Rattle.dl_lex.specs.declared.token.TokenKind.TheVariants.{Open, Close, Equals, Caret, Iri, Text, Lang, Node, Short, Number, Word, End}
 use Rattle.dl_lex.specs.declared.token.Token.{Token}
@@ -11,10 +11,10 @@ use Rattle.dl_owl.specs.declared.fault.OwlFault.TheVariants as fault
 use Rattle.dl_owl.specs.Symbols as symbols
 use Rattle.dl_owl.specs.Symbols.{Symbol, no_token, Placed, placed, symbol_of, AreTokens}
 use Rattle.dl_owl.specs.Prefixes.{Prefixes}
-use Rattle.dl_owl.specs.Causes.{Cause, syntax, too_deep, too_many_names, fault_of}
-use Rattle.dl_owl.specs.Expected.{Expected, prologue, prefix_name, prefix_equals, prefix_iri, title, annotations_first, items, lone_axiom, finish, done, open_then, close_then, annotations_then, iri_then, subject_then, value_then, value_end, property_then, role_then, first_role, second_role, sub_then, sup_then, thing_then, filler_then, roles_close, subs_close, sups_close, individual_then, unnamed_then, different_close, class_then, declared_class, entity_then, Move, goes, takes_name, declares, refuses}
+use Rattle.dl_owl.specs.Causes.{Cause, syntax, too_deep, fault_of}
+use Rattle.dl_owl.specs.Expected.{Expected, prologue, prefix_name, prefix_equals, prefix_iri, title, annotations_first, items, lone_axiom, finish, done, open_then, close_then, annotations_then, iri_then, subject_then, value_then, value_end, property_then, role_then, first_role, second_role, sub_then, sup_then, thing_then, filler_then, roles_close, subs_close, sups_close, individual_then, unnamed_then, different_close, class_then, declared_class, entity_then, goes, refuses}
 use Rattle.dl_owl.specs.Steps.{move_of}
-use Rattle.dl_owl.specs.Reading.{Met, Outcome, gives, fails, depth_after, is_too_deep, at_depth, is_full, outcome_of, outcome}
+use Rattle.dl_owl.specs.Reading.{fails, depth_after, is_too_deep, outcome_of, outcome}
 use Rattle.dl_owl.specs.Walk as walk
 use Rattle.dl_owl.specs.Walk.{Spot, Here, here, met_of, FromToken, Goes, FaultsBy, Faults}
 
@@ -24,7 +24,7 @@ symbol_at s = (placed s.bytes s.token).symbol
 
 -- ---- one after another
 
-goes_tokens : (bytes : List ℕ) (all : Bool) (place : ℕ) (t : Token) (tokens : List Placed) → IsNextToken bytes place t
+pub goes_tokens : (bytes : List ℕ) (all : Bool) (place : ℕ) (t : Token) (tokens : List Placed) → IsNextToken bytes place t
     → FromToken bytes all t tokens → AreTokens bytes all place tokens
 goes_tokens bytes all place t tokens next (walk.FromToken.last end) = symbols.AreTokens.last t next end
 goes_tokens bytes all place t tokens next (walk.FromToken.more not them) = symbols.AreTokens.token t next not them
@@ -93,7 +93,7 @@ module _ (e next : Expected) (s : Spot) (p : Prefixes) (names : List name_list.T
 
 -- ---- a token that is refused
 
-one_token : (bytes : List ℕ) (t : Token) → FromToken bytes false t (placed bytes t ∷ [])
+pub one_token : (bytes : List ℕ) (t : Token) → FromToken bytes false t (placed bytes t ∷ [])
 one_token bytes t = by t.kind refl
   where
     other : t.kind ≢ End → FromToken bytes false t (placed bytes t ∷ [])

@@ -1,7 +1,8 @@
 // The place in the tokens of an ontology at which its reader stands.
-ghost use Rattle.std.specs.Prelude.{◌≡◌, ◌↔◌, IsTrue, false, List};
+ghost use Rattle.std.specs.Prelude.{◌≡◌, ◌+◌, ◌-◌, ◌≤◌, ◌↔◌, IsUtf8, IsTrue, false, List, length, slice_range};
+ghost use Rattle.dl_lex.specs.Grammar.{IsTokenAt};
 ghost use Rattle.dl_names.specs.NameList.{Text};
-ghost use Rattle.dl_owl.specs.Prefixes.{Prefixes};
+ghost use Rattle.dl_owl.specs.Prefixes.{Prefixes, prefix_of, local_of};
 ghost use Rattle.dl_owl.specs.Expected.{open_then, close_then};
 ghost use Rattle.dl_owl.specs.Symbols.{opening, closing};
 ghost use Rattle.dl_owl.specs.Reading.{is_too_deep, depth_after};
@@ -24,7 +25,8 @@ pub(crate) struct Cursor<'a> {
 }
 
 impl<'a> Model for Cursor<'a> {
-    ghost use Rattle.std.specs.Prelude.{◌≡◌, ◌≤◌, length};
+    ghost use Rattle.std.specs.Prelude.{◌≡◌, ◌≤◌, length, slice_range, IsUtf8};
+    ghost use Rattle.dl_lex.specs.Grammar.{IsTokenAt};
     ghost use Rattle.dl_lex.specs.Reading.{Reading};
     ghost use Rattle.dl_owl.specs.Walk.{Spot};
 
@@ -34,7 +36,9 @@ impl<'a> Model for Cursor<'a> {
 
     ghost invariant = { λ c.
         (c.lexer.bytes ≡ c.bytes.now) × (c.lexer.offset ≡ c.token.end) × (c.depth ≤ 64)
-        × (c.token.start ≤ c.token.end) × (c.token.end ≤ length c.bytes.now) };
+        × (c.token.start ≤ c.token.end) × (c.token.end ≤ length c.bytes.now)
+        × ∥ IsUtf8 (slice_range c.bytes.now c.token.start c.token.end) ∥₁
+        × ∥ IsTokenAt c.bytes.now c.token.kind c.token.start c.token.end ∥₁ };
 }
 
 impl<'a> Cursor<'a> {
@@ -55,6 +59,39 @@ impl<'a> Cursor<'a> {
                 Ok(())
             }
             Err(LexFault { at }) => Err(OwlFault::Syntax { at }),
+        }
+    }
+
+    /// The text of the next token.
+    pub(crate) fn text(&self) -> &'a str
+        ensures is { result.now ≡ slice_range self.now.bytes self.now.token.start self.now.token.end }
+        ensures stands { ∥ IsTokenAt self.now.bytes self.now.token.kind self.now.token.start
+            self.now.token.end ∥₁ }
+    {
+        match std::str::from_utf8(&self.bytes[self.token.start..self.token.end]) {
+            Ok(text) => text,
+            Err(_) => unreachable!(),
+        }
+    }
+
+    /// The IRI of the next token, which is one in full, without its `<` and `>`.
+    pub(crate) fn full_iri(&self) -> &'a str
+        requires { self.now.token.kind ≡ TokenKind.Iri }
+        ensures { let text = slice_range self.now.bytes self.now.token.start self.now.token.end in
+            result.now ≡ slice_range text 1 (length text - 1) }
+    {
+        between_brackets(self.bytes, self.token.start, self.token.end)
+    }
+
+    /// The prefix name and the local part of the next token, which is a short IRI, without the colon between them.
+    pub(crate) fn short_iri(&self) -> (&'a str, &'a str)
+        requires { self.now.token.kind ≡ TokenKind.Short }
+        ensures prefix { result.0.now ≡ prefix_of (slice_range self.now.bytes self.now.token.start self.now.token.end) }
+        ensures local { result.1.now ≡ local_of (slice_range self.now.bytes self.now.token.start self.now.token.end) }
+    {
+        match self.text().split_once(':') {
+            Some(parts) => parts,
+            None => unreachable!(),
         }
     }
 
@@ -105,6 +142,20 @@ impl<'a> Cursor<'a> {
         ensures { self.new ≡ record self.old { depth = depth_after closing self.old.depth } }
     {
         self.depth = self.depth.saturating_sub(1);
+    }
+}
+
+/// What stands between the `<` and `>` of an IRI that stands from a place to another.
+fn between_brackets(bytes: &[u8], start: usize, end: usize) -> &str
+    requires spans { start + 1 ≤ end - 1 }
+    requires within { end ≤ length bytes.now }
+    requires utf8 { ∥ IsUtf8 (slice_range bytes.now (start + 1) (end - 1)) ∥₁ }
+    ensures { let text = slice_range bytes.now start end in
+        result.now ≡ slice_range text 1 (length text - 1) }
+{
+    match std::str::from_utf8(&bytes[start + 1..end - 1]) {
+        Ok(text) => text,
+        Err(_) => unreachable!(),
     }
 }
 
