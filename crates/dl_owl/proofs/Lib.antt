@@ -16,3 +16,4 @@ pub mod TextLemmas
 pub mod WalkLemmas
 pub mod CursorLemmas
 pub mod SpanLemmas
+pub mod PrefixLemmas

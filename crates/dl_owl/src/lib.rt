@@ -5,6 +5,7 @@ mod cursor;
 mod document;
 mod fault;
 mod laws;
+mod prefixes;
 mod text;
 
 pub use document::Document;
