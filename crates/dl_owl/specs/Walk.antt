@@ -8,8 +8,10 @@ use Rattle.dl_owl.specs.declared.fault.OwlFault.{OwlFault}
 use Rattle.dl_owl.specs.declared.fault.OwlFault.TheVariants.{Syntax, NoMemory}
 use Rattle.dl_owl.specs.Symbols.{Placed, placed, AreTokens}
 use Rattle.dl_owl.specs.Prefixes.{Prefixes}
-use Rattle.dl_owl.specs.Causes.{Cause, fault_of}
-use Rattle.dl_owl.specs.Expected.{Expected}
+use Rattle.dl_owl.specs.declared.iri.Found.{Found}
+use Rattle.dl_owl.specs.declared.iri.Found.TheVariants.{Iri, Unknown, Other}
+use Rattle.dl_owl.specs.Causes.{Cause, prefix_unknown, fault_of}
+use Rattle.dl_owl.specs.Expected.{Expected, Move, refuses}
 use Rattle.dl_owl.specs.Reading.{Met, fails, outcome}
 
 -- the bytes, the token that stands next, and how many parentheses are open before it
@@ -79,3 +81,9 @@ pub record NoneNext (old : Spot) (fault : OwlFault) : Type 0 where
 abbrev pub Advances : Spot → Spot → Result (Unit {0}) OwlFault → Type 0
 Advances old new (Ok _) = Moved old new
 Advances old new (Err fault) = NoneNext old fault
+
+-- what a token that was looked at is: an IRI, whose text is at hand, a short one whose prefix isn't declared, or no IRI
+abbrev pub found_move : Found → Text → (Text → Move) → Move → Move
+found_move Iri text k other = k text
+found_move Unknown text k other = refuses prefix_unknown
+found_move Other text k other = other

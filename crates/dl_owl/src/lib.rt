@@ -4,6 +4,7 @@
 mod cursor;
 mod document;
 mod fault;
+mod iri;
 mod laws;
 mod prefixes;
 mod text;
