@@ -1,0 +1,5 @@
+pub mod RowLemmas
+pub mod FormLemmas
+pub mod OperandLemmas
+pub mod WeightLemmas
+pub mod FilledLemmas

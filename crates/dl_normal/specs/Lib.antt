@@ -1,0 +1,4 @@
+pub mod Indexed
+pub mod Weight
+pub mod Filled
+pub mod Growing

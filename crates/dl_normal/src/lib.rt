@@ -1,0 +1,12 @@
+// The normal form of axioms: role inclusions, concept inclusions and negatives. Its size, and its fillers, without making it.
+#![tactic(auto)]
+
+mod filled;
+mod form;
+mod operands;
+mod roles;
+mod size;
+
+pub use filled::{fillers, fillers_are_of_parts};
+pub use form::normal;
+pub use size::weight;
