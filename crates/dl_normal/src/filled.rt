@@ -22,7 +22,7 @@ pub fn fillers(alloc: Global, axioms: &[Axiom]) -> Result<u64, NoMemory>
 
 // Adds the pairs of an axiom.
 fn push_filled(pairs: &mut List<(Role, u32)>, axiom: &Axiom) -> Result<(), NoMemory>
-    ensures { OnOk result (pairs.new ≡ pairs.old ++ filter_map filled (parts_of axiom.now)) }
+    ensures { OnOk result (pairs.new ≡ pairs.old ++ filter_map filled (parts_of «axiom».now)) }
 {
     match axiom {
         Axiom::SubClass { sup, .. } | Axiom::Domain { sup, .. } | Axiom::Range { sup, .. } => {

@@ -33,7 +33,7 @@ pub fn normal(alloc: Global, axioms: &[Axiom]) -> Result<Normal, NoMemory>
 
 // Adds the rows of the axiom at an index.
 fn push_axiom(normal: &mut Normal, index: u32, axiom: &Axiom) -> Result<(), NoMemory>
-    ensures { OnOk result (Gains index (axiom_rows axiom.now) normal.old normal.new) }
+    ensures { OnOk result (Gains index (axiom_rows «axiom».now) normal.old normal.new) }
 {
     match axiom {
         Axiom::SubClass { sub, sup } => push_parts(normal, index, *sub, sup.as_slice()),

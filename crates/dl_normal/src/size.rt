@@ -20,7 +20,7 @@ pub fn weight(axioms: &[Axiom]) -> u64
 
 // How many rows an axiom has, at most 2^64 - 1.
 fn count_of_rows(axiom: &Axiom) -> u64
-    ensures { result ≡ min (length (axiom_rows axiom.now)) (2 ^ 64 - 1) }
+    ensures { result ≡ min (length (axiom_rows «axiom».now)) (2 ^ 64 - 1) }
 {
     match axiom {
         Axiom::SubClass { sup, .. } | Axiom::Domain { sup, .. } | Axiom::Range { sup, .. } => {
