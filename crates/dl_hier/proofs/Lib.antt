@@ -1,0 +1,11 @@
+pub mod SortedLemmas
+pub mod MemberLemmas
+pub mod PredicateLemmas
+pub mod ChainLemmas
+pub mod StepLemmas
+pub mod GraphLemmas
+pub mod QueryLemmas
+pub mod PickLemmas
+pub mod NameLemmas
+pub mod SearchLemmas
+pub mod HierLemmas

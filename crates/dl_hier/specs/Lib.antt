@@ -1,0 +1,7 @@
+pub mod Predicates
+pub mod Rows
+pub mod Hierarchy
+pub mod Below
+pub mod Nodes
+pub mod Graphs
+pub mod Picking

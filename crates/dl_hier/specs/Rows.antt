@@ -1,0 +1,85 @@
+-- The rows of a normal form from which a hierarchy is built, and what they name.
+use Rattle.std.specs.Prelude.{◌≡◌, ℕ, ◌+◌, ◌≤◌, List, [], ◌∷◌, ◌++◌, map, length, All, Contains}
+use Rattle.std.specs.List.{flat_map}
+use Rattle.std.specs.Ordering.{nat_cmp}
+use Rattle.dl_terms.specs.Order.{base_cmp}
+use Rattle.dl_terms.specs.Roles.{inverse_of}
+use Rattle.dl_terms.specs.Sets.{IsSetOf}
+use Rattle.dl_terms.specs.NormalForm.{role_inclusions, concept_inclusions}
+use Rattle.dl_terms.specs.declared.role.Base.{Base}
+use Rattle.dl_terms.specs.declared.role.Base.TheVariants.{Named, Filler}
+use Rattle.dl_terms.specs.declared.role.Role.{Role}
+use Rattle.dl_terms.specs.declared.role.Basic.{Basic}
+use Rattle.dl_terms.specs.declared.role.Basic.TheVariants.{Class, SomeOf}
+use Rattle.dl_terms.specs.declared.role.Negative.{Negative}
+use Rattle.dl_terms.specs.declared.role.Negative.TheVariants.{Basics, Roles, NoLoop}
+use Rattle.dl_terms.specs.declared.role.Normal.{Normal}
+use Rattle.dl_terms.specs.declared.axiom.Axiom.{Axiom}
+use Rattle.dl_terms.specs.declared.axiom.Signature.{Signature}
+use Rattle.dl_hier.specs.Predicates.{Predicates, max_predicates}
+
+-- the inclusions of the normal form of the axioms are these rows
+pub record HasInclusions (axioms : List Axiom) (normal : Normal) : Type 0 where
+  pub roles : normal.roles ≡ role_inclusions axioms
+  pub concepts : normal.concepts ≡ concept_inclusions axioms
+
+-- the signature has the object property, or the class
+abbrev pub HasBase : Signature → Base → Type 0
+HasBase signature (Named p) = Contains signature.roles p
+HasBase signature (Filler p i c) = Unit {0}
+
+abbrev pub HasRole : Signature → Role → Type 0
+HasRole signature r = HasBase signature r.base
+
+abbrev pub HasBasic : Signature → Basic → Type 0
+HasBasic signature (Class c) = Contains signature.classes c
+HasBasic signature (SomeOf r) = HasRole signature r
+
+-- the signature has the names of the inclusions; a filler needs none
+pub record HasNames (signature : Signature) (normal : Normal) : Type 0 where
+  pub roles : All (λ p. HasRole signature p.0 × HasRole signature p.1) normal.roles
+  pub concepts : All (λ p. HasBasic signature p.0 × HasBasic signature p.1) normal.concepts
+
+-- the fillers among role names
+abbrev pub base_fillers : Base → List Base
+base_fillers (Named p) = []
+base_fillers (Filler p i c) = Filler p i c ∷ []
+
+abbrev pub role_fillers : Role → List Base
+role_fillers r = base_fillers r.base
+
+abbrev pub basic_fillers : Basic → List Base
+basic_fillers (Class c) = []
+basic_fillers (SomeOf r) = role_fillers r
+
+abbrev pub negative_fillers : Negative → List Base
+negative_fillers (Basics b c) = basic_fillers b ++ basic_fillers c
+negative_fillers (Roles r s) = role_fillers r ++ role_fillers s
+negative_fillers (NoLoop r) = role_fillers r
+
+-- the fillers that a normal form names, as often as it names them
+abbrev pub normal_fillers : Normal → List Base
+normal_fillers normal =
+    flat_map (λ p. role_fillers p.0 ++ role_fillers p.1) normal.roles
+    ++ flat_map (λ p. basic_fillers p.0 ++ basic_fillers p.1) normal.concepts
+    ++ flat_map (λ p. negative_fillers p.1) normal.negatives
+
+-- classes, object properties and fillers together are few: some list has each filler
+pub record AreFew (signature : Signature) (normal : Normal) : Type 0 where
+  pub fillers : List Base
+  pub each : All (Contains fillers) (normal_fillers normal)
+  pub few : length signature.classes + length signature.roles + length fillers ≤ max_predicates
+
+-- the predicates are those of the signature, and the fillers that the normal form names
+pub record ArePredicatesOf (signature : Signature) (normal : Normal) (p : Predicates) : Type 0 where
+  pub classes : IsSetOf nat_cmp p.classes signature.classes
+  pub properties : IsSetOf nat_cmp p.properties signature.roles
+  pub fillers : IsSetOf base_cmp p.fillers (normal_fillers normal)
+
+-- the steps of role inclusions: each as it stands, and with both sides inverted
+abbrev pub role_steps : List (Role × Role) → List (Role × Role)
+role_steps rows = flat_map (λ p. p ∷ (inverse_of p.0, inverse_of p.1) ∷ []) rows
+
+-- the steps between basic concepts: the concept inclusions, and from "some r" to "some s" for each step from r to s
+abbrev pub concept_steps : List (Role × Role) → List (Basic × Basic) → List (Basic × Basic)
+concept_steps steps rows = rows ++ map (λ p. (SomeOf p.0, SomeOf p.1)) steps

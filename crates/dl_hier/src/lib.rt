@@ -1,0 +1,11 @@
+// The hierarchies of roles and of basic concepts: what is below what, by two graphs that are closed once.
+#![tactic(auto)]
+
+mod below;
+mod edges;
+mod fillers;
+mod hier;
+mod nodes;
+
+pub use below::Below;
+pub use hier::Hier;
