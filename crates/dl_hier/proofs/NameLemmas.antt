@@ -1,5 +1,6 @@
 -- The names of a normal form are in the hierarchy, and the predicates are in order and few.
-use Rattle.std.proofs.Common.{◌≡◌, ℕ, ◌+◌, ◌<◌, ◌≤◌, List, [], ◌∷◌, ◌++◌, map, flat_map, length, get_or, All, Contains, refl, sym, ap, ap₂, subst, ◌∙◌, arith}
+use Rattle.std.proofs.Common.{min, leb, ◌-◌, ◌^◌, ◌↔◌, Bool, true, false, IsTrue, true≢false, ◌≡◌, ℕ, ◌+◌, ◌<◌, ◌≤◌, List, [], ◌∷◌, ◌++◌, map, flat_map, length, get_or, All, Contains, refl, sym, ap, ap₂, subst, ◌∙◌, arith}
+use Rattle.std.proofs.lemmas.Bool.{leb-true, le-leb}
 use Rattle.std.proofs.Math.Path.{fun_ext}
 use Rattle.std.specs.declared.cmp.Ordering.{Ordering}
 use Rattle.std.specs.Ordering.{nat_cmp}
@@ -20,11 +21,11 @@ use Rattle.dl_terms.specs.declared.axiom.Signature.{Signature}
 use Rattle.dl_terms.proofs.OrderLemmas.{numbers_linear, bases_linear}
 use Rattle.dl_terms.proofs.DerivedLemmas as derived
 use Rattle.dl_terms.proofs.MemberLemmas.{Contains-first}
-use Rattle.dl_hier.specs.Predicates.{Predicates, bases, roles, basics, IsFiller, AreInOrder}
-use Rattle.dl_hier.specs.Rows.{HasBase, HasRole, HasBasic, HasNames, base_fillers, role_fillers, basic_fillers, negative_fillers, normal_fillers, AreFew, ArePredicatesOf}
+use Rattle.dl_hier.specs.Predicates.{max_predicates, Predicates, bases, roles, basics, IsFiller, AreInOrder}
+use Rattle.dl_hier.specs.Rows.{IsNamedIn, IsBasicIn, HasNames, base_fillers, role_fillers, basic_fillers, negative_fillers, normal_fillers, AreFew, ArePredicatesOf}
 use Rattle.dl_hier.proofs.SortedLemmas.{no_longer, IsSetOf-no_longer}
 use Rattle.dl_hier.proofs.MemberLemmas.{Contains-map_of, Contains-flat_map_of, All-flat_map}
-use Rattle.dl_hier.proofs.PredicateLemmas.{base-role, known-class, known-some}
+use Rattle.dl_hier.proofs.PredicateLemmas.{base-role, role-base, known-class, known-some, property-known, class-known, some-known}
 
 -- the derived order of role names is that of the definitions
 pub base_order : (base_impl.cmp-value).it ≡ base_cmp
@@ -93,14 +94,14 @@ ArePredicatesOf-sets signature normal cs ps fs classes properties fillers e f g 
 -- ---- names that are known
 
 module _ (signature : Signature) (normal : Normal) (p : Predicates) (are : ArePredicatesOf signature normal p) where
-  base_known : (b : Base) → HasBase signature b → ((c : Base) → Contains (base_fillers b) c → Contains (normal_fillers normal) c) → Contains (bases p) b
+  base_known : (b : Base) → IsNamedIn signature.roles b → ((c : Base) → Contains (base_fillers b) c → Contains (normal_fillers normal) c) → Contains (bases p) b
   base_known (Named q) has within =
       Contains-append_left (map Named p.properties) p.fillers (Named q) (Contains-map_of Named p.properties q ((are.properties.members q).1 has))
   base_known (Filler q i c) has within =
       Contains-append_right (map Named p.properties) p.fillers (Filler q i c)
       ((are.fillers.members (Filler q i c)).1 (within (Filler q i c) (Contains-first (Filler q i c) [])))
 
-  basic_known : (b : Basic) → HasBasic signature b → ((c : Base) → Contains (basic_fillers b) c → Contains (normal_fillers normal) c) → Contains (basics p) b
+  basic_known : (b : Basic) → IsBasicIn signature.classes signature.roles b → ((c : Base) → Contains (basic_fillers b) c → Contains (normal_fillers normal) c) → Contains (basics p) b
   basic_known (Class c) has within = known-class p c ((are.classes.members c).1 has)
   basic_known (SomeOf r) has within = known-some p r (base-role p r (base_known r.base has within))
 
@@ -145,3 +146,65 @@ module _ (signature : Signature) (normal : Normal) (p : Predicates) (are : ArePr
         basic_known row.0 named.0 (λ c m. concept_filler row has c (Contains-append_left (basic_fillers row.0) (basic_fillers row.1) c m)),
         basic_known row.1 named.1 (λ c m. concept_filler row has c (Contains-append_right (basic_fillers row.0) (basic_fillers row.1) c m)),
       )
+
+-- ---- the test of names and fillers
+
+module _ (signature : Signature) (normal : Normal) (p : Predicates) (are : ArePredicatesOf signature normal p) (order : AreInOrder p) where
+  base_named : (b : Base) → Contains (bases p) b → IsNamedIn signature.roles b
+  base_named (Named q) c = (are.properties.members q).0 (property-known p order q c)
+  base_named (Filler q i d) c = tt
+
+  basic_named : (b : Basic) → Contains (basics p) b → IsBasicIn signature.classes signature.roles b
+  basic_named (Class c) h = (are.classes.members c).0 (class-known p c h)
+  basic_named (SomeOf r) h = base_named r.base (role-base p r (some-known p r h))
+
+  pub names_told : (answer : Bool) → AreFew signature normal → All (λ q. Contains (roles p) q.0 × Contains (roles p) q.1) normal.roles
+      → IsTrue answer ↔ All (λ q. Contains (basics p) q.0 × Contains (basics p) q.1) normal.concepts
+      → IsTrue answer ↔ (HasNames signature normal × AreFew signature normal)
+  names_told answer are_few known says = (
+    λ h. (record {
+        roles = λ k d w. let row = known k d w in
+            (base_named (get_or normal.roles k d).0.base (role-base p (get_or normal.roles k d).0 row.0),
+             base_named (get_or normal.roles k d).1.base (role-base p (get_or normal.roles k d).1 row.1));
+        concepts = λ k d w. let row = says.0 h k d w in
+            (basic_named (get_or normal.concepts k d).0 row.0, basic_named (get_or normal.concepts k d).1 row.1);
+      }, are_few),
+    λ h. says.1 (concept_rows_known signature normal p are h.0),
+  )
+
+-- what is refused: what isn't few, and what isn't named
+pub few_refused : (signature : Signature) (normal : Normal) (few : Bool) → few ≡ false → IsTrue few ↔ AreFew signature normal
+    → IsTrue false ↔ (HasNames signature normal × AreFew signature normal)
+few_refused signature normal few not_few says = (λ h. absurd (true≢false (sym h)), λ h. absurd (true≢false (sym (says.1 h.1) ∙ not_few)))
+
+pub names_refused : (signature : Signature) (normal : Normal) (p : Predicates) → ArePredicatesOf signature normal p → (known : Bool) → known ≡ false
+    → IsTrue known ↔ All (λ q. Contains (roles p) q.0 × Contains (roles p) q.1) normal.roles
+    → IsTrue false ↔ (HasNames signature normal × AreFew signature normal)
+names_refused signature normal p are known unknown says =
+    (λ h. absurd (true≢false (sym h)), λ h. absurd (true≢false (sym (says.1 (role_rows_known signature normal p are h.0)) ∙ unknown)))
+
+-- what is told of a slice is told of the list that it is
+pub rows_told : {A : Type 0} (P : A → Type 0) (slice rows : List A) {answer : Bool} → slice ≡ rows → IsTrue answer ↔ All P slice → IsTrue answer ↔ All P rows
+rows_told P slice rows {answer} same says = subst (λ l. IsTrue answer ↔ All P l) same says
+
+-- a sum of three counts, held at 2^64 - 1
+pub few_counted : (cs ps fs a b d names total : ℕ) → a ≡ cs → b ≡ ps → d ≡ fs → names ≡ min (a + b) (2 ^ 64 - 1) → total ≡ min (names + d) (2 ^ 64 - 1)
+    → IsTrue (leb total max_predicates) ↔ (cs + ps + fs ≤ max_predicates)
+few_counted cs ps fs a b d names total e f g sum all =
+    (λ h. let k : total ≤ max_predicates = leb-true total max_predicates h in omega (arith, k, e, f, g, sum, all),
+     λ h. le-leb total max_predicates (omega (arith, h, e, f, g, sum, all)))
+
+-- few, where the set of the fillers makes it so
+pub few_told : (signature : Signature) (normal : Normal) (set : List Base) → IsSetOf (base_impl.cmp-value).it set (normal_fillers normal) → (answer : Bool)
+    → IsTrue answer ↔ (length signature.classes + length signature.roles + length set ≤ max_predicates) → IsTrue answer ↔ AreFew signature normal
+few_told signature normal set is answer says =
+    let ascending : IsSetOf base_cmp set (normal_fillers normal) = subst (λ R. IsSetOf R set (normal_fillers normal)) base_order is in (
+      λ h. record {
+        fillers = set;
+        each = λ k d w. (ascending.members (get_or (normal_fillers normal) k d)).1 (Contains-get_or (normal_fillers normal) k d w);
+        few = says.0 h;
+      },
+      λ h. says.1 (let shorter = no_longer bases_linear.total set h.fillers ascending.ascending
+          (λ b c. All-contains (Contains h.fillers) (normal_fillers normal) b h.each ((ascending.members b).0 c)) in
+          let few = h.few in omega (arith, shorter, few)),
+    )

@@ -23,22 +23,20 @@ pub record HasInclusions (axioms : List Axiom) (normal : Normal) : Type 0 where
   pub roles : normal.roles ≡ role_inclusions axioms
   pub concepts : normal.concepts ≡ concept_inclusions axioms
 
--- the signature has the object property, or the class
-abbrev pub HasBase : Signature → Base → Type 0
-HasBase signature (Named p) = Contains signature.roles p
-HasBase signature (Filler p i c) = Unit {0}
+-- the name is among these; a filler needs none
+abbrev pub IsNamedIn : List ℕ → Base → Type 0
+IsNamedIn properties (Named p) = Contains properties p
+IsNamedIn properties (Filler p i c) = Unit {0}
 
-abbrev pub HasRole : Signature → Role → Type 0
-HasRole signature r = HasBase signature r.base
+abbrev pub IsBasicIn : List ℕ → List ℕ → Basic → Type 0
+IsBasicIn classes properties (Class c) = Contains classes c
+IsBasicIn classes properties (SomeOf r) = IsNamedIn properties r.base
 
-abbrev pub HasBasic : Signature → Basic → Type 0
-HasBasic signature (Class c) = Contains signature.classes c
-HasBasic signature (SomeOf r) = HasRole signature r
-
--- the signature has the names of the inclusions; a filler needs none
+-- the signature has the names of the inclusions
 pub record HasNames (signature : Signature) (normal : Normal) : Type 0 where
-  pub roles : All (λ p. HasRole signature p.0 × HasRole signature p.1) normal.roles
-  pub concepts : All (λ p. HasBasic signature p.0 × HasBasic signature p.1) normal.concepts
+  pub roles : All (λ p. IsNamedIn signature.roles p.0.base × IsNamedIn signature.roles p.1.base) normal.roles
+  pub concepts :
+      All (λ p. IsBasicIn signature.classes signature.roles p.0 × IsBasicIn signature.classes signature.roles p.1) normal.concepts
 
 -- the fillers among role names
 abbrev pub base_fillers : Base → List Base

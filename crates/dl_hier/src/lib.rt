@@ -4,8 +4,10 @@
 mod below;
 mod edges;
 mod fillers;
+mod fit;
 mod hier;
 mod nodes;
 
 pub use below::Below;
+pub use fit::{MAX_PREDICATES, fits};
 pub use hier::Hier;

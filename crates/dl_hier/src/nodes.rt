@@ -132,8 +132,8 @@ impl Nodes {
     }
 }
 
-// The index of an item in a list that ascends strictly.
-fn index_of<T: Ord>(items: &[T], item: &T) -> Option<u32>
+/// The index of an item in a list that ascends strictly.
+pub(crate) fn index_of<T: Ord>(items: &[T], item: &T) -> Option<u32>
     requires few { length items.now ≤ max_predicates }
     requires ascending { IsStrictlySortedBy T.cmp items.now }
     requires equal { (x y : T) → T.cmp x y ≡ Equal → x ≡ y }
