@@ -1,5 +1,5 @@
 -- Chains of steps between terms, and chains of edges between their nodes.
-use Rattle.std.proofs.Common.{◌≡◌, ℕ, ◌<◌, ◌↔◌, List, map, length, get_or, All, Contains, refl, sym, ap, subst, ◌∙◌}
+use Rattle.std.proofs.Common.{◌≡◌, ℕ, ◌<◌, ◌↔◌, List, map, length, get_or, Contains, refl, sym, ap, subst, ◌∙◌}
 use Rattle.std.proofs.lemmas.List.Elements.{All-contains, Contains-get_or}
 use Rattle.dl_terms.specs.Chain.{Chain, empty, step}
 use Rattle.dl_terms.proofs.BelowLemmas.{Chain-one, Chain-trans}

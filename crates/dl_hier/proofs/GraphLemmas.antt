@@ -1,9 +1,8 @@
 -- The graphs of a hierarchy: edges for steps, and the hierarchy that they give.
-use Rattle.std.proofs.Common.{◌≡◌, ℕ, ◌+◌, ◌<◌, ◌≤◌, ◌↔◌, List, [], ◌∷◌, ◌++◌, map, flat_map, length, get_or, take, All, Contains, refl, sym, ap, ap₂, subst, ◌∙◌, arith, length-append}
+use Rattle.std.proofs.Common.{◌≡◌, ℕ, ◌+◌, ◌<◌, ◌≤◌, ◌↔◌, List, [], ◌∷◌, ◌++◌, map, length, get_or, take, Contains, refl, sym, ap, ap₂, subst, ◌∙◌, arith}
 use Rattle.std.proofs.lemmas.List.{map-append, take_more, get_or_default}
 use Rattle.std.proofs.lemmas.List.Concat.{flat_map-append}
-use Rattle.std.proofs.lemmas.List.Elements.{All-nil, All-cons, All-push, All-head, All-tail, All-append, All-map, All-weaker, All-contains, Contains-get_or}
-use Rattle.std.proofs.Common.{append-nil}
+use Rattle.std.proofs.lemmas.List.Elements.{All-nil, All-push, All-head, All-tail, All-append, All-map, All-weaker, All-contains, Contains-get_or}
 use Rattle.dl_terms.specs.Roles.{named, inverse_of}
 use Rattle.dl_terms.specs.declared.role.Role.{Role}
 use Rattle.dl_terms.specs.declared.role.Basic.{Basic}
@@ -11,11 +10,11 @@ use Rattle.dl_terms.specs.declared.role.Basic.TheVariants.{Class, SomeOf}
 use Rattle.dl_terms.specs.declared.role.Normal.{Normal}
 use Rattle.dl_terms.specs.declared.axiom.Axiom.{Axiom}
 use Rattle.dl_reach.specs.Digraph.{Digraph, EndsBelow}
-use Rattle.dl_hier.specs.Predicates.{Predicates, AreInOrder, roles, basics}
+use Rattle.dl_hier.specs.Predicates.{Predicates, roles, basics}
 use Rattle.dl_hier.specs.Rows.{HasInclusions, role_steps, concept_steps}
-use Rattle.dl_hier.specs.Hierarchy.{Hierarchy, IsHierarchyOf}
+use Rattle.dl_hier.specs.Hierarchy.{IsHierarchyOf}
 use Rattle.dl_hier.specs.Nodes.{StandsAt, ends_of}
-use Rattle.dl_hier.specs.Graphs.{AreEdges, shifted, hierarchy_over, AreGraphsOf}
+use Rattle.dl_hier.specs.Graphs.{AreEdges, shifted, hierarchy_over}
 use Rattle.dl_hier.proofs.MemberLemmas.{Contains-map, Contains-map_of, StandsAt-default}
 use Rattle.dl_hier.proofs.PredicateLemmas.{basic-at_role, length-basics}
 use Rattle.dl_hier.proofs.StepLemmas.{IsHierarchyOf-rows}

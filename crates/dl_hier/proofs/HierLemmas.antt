@@ -1,5 +1,5 @@
 -- What the calls of a hierarchy ask of each other and give, from its two graphs.
-use Rattle.std.proofs.Common.{◌≡◌, ℕ, ◌+◌, ◌*◌, ◌<◌, ◌≤◌, ◌↔◌, ◌⊎◌, List, [], ◌∷◌, length, get_or, All, Contains, refl, sym, ap, subst, ◌∙◌, arith}
+use Rattle.std.proofs.Common.{◌≡◌, ℕ, ◌+◌, ◌*◌, ◌<◌, ◌≤◌, ◌↔◌, List, [], ◌∷◌, length, get_or, All, Contains, sym, ap, subst, ◌∙◌, arith}
 use Rattle.std.specs.declared.cmp.Ordering.{Ordering}
 use Rattle.std.specs.Ordering.{nat_cmp}
 use Rattle.std.specs.List.Sorted.{IsStrictlySortedBy}
@@ -13,14 +13,14 @@ use Rattle.dl_terms.specs.declared.role.Basic.TheVariants.{Class, SomeOf}
 use Rattle.dl_terms.specs.declared.axiom.Axiom.{Axiom}
 use Rattle.dl_terms.proofs.MemberLemmas.{Contains-nil}
 use Rattle.dl_reach.specs.Chain.{Chain as Walk}
-use Rattle.dl_reach.specs.Digraph.{Digraph, IsEdge, EndsBelow, max_nodes}
+use Rattle.dl_reach.specs.Digraph.{Digraph, IsEdge, max_nodes}
 use Rattle.dl_hier.specs.Predicates.{Predicates, AreInOrder, roles, basics}
 use Rattle.dl_hier.specs.Hierarchy.{Hierarchy, IsHierarchyOf}
 use Rattle.dl_hier.specs.Below.{IsBelowOneOf, AreThose}
 use Rattle.dl_hier.specs.Nodes.{StandsAt}
 use Rattle.dl_hier.specs.Graphs.{hierarchy_over, AreGraphsOf}
 use Rattle.dl_hier.specs.Picking.{ArePicked, AreTargets, LeadsToOneOf}
-use Rattle.dl_hier.proofs.PredicateLemmas.{roles-ascend, length-roles, length-basics, basic-at_role, known-some, some-known}
+use Rattle.dl_hier.proofs.PredicateLemmas.{roles-ascend, length-roles, length-basics, basic-at_role, known-some}
 use Rattle.dl_hier.proofs.ChainLemmas.{walks_are_chains, from_unknown}
 use Rattle.dl_hier.proofs.QueryLemmas.{then, back, one_of_roles, one_of_basics}
 use Rattle.dl_hier.proofs.PickLemmas.{AreThose-picked, exact-picked, basic_leads, role_leads, class_node, plain_node, inverse_node, some_node, some_inverse_node}

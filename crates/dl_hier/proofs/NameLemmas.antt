@@ -1,12 +1,10 @@
 -- The names of a normal form are in the hierarchy, and the predicates are in order and few.
-use Rattle.std.proofs.Common.{min, leb, ◌-◌, ◌^◌, ◌↔◌, Bool, true, false, IsTrue, true≢false, ◌≡◌, ℕ, ◌+◌, ◌<◌, ◌≤◌, List, [], ◌∷◌, ◌++◌, map, flat_map, length, get_or, All, Contains, refl, sym, ap, ap₂, subst, ◌∙◌, arith}
+use Rattle.std.proofs.Common.{min, leb, ◌-◌, ◌^◌, ◌↔◌, Bool, false, IsTrue, true≢false, ◌≡◌, ℕ, ◌+◌, ◌≤◌, List, [], ◌++◌, map, flat_map, length, get_or, All, Contains, sym, subst, ◌∙◌, arith}
 use Rattle.std.proofs.lemmas.Bool.{leb-true, le-leb}
 use Rattle.std.proofs.Math.Path.{fun_ext}
-use Rattle.std.specs.declared.cmp.Ordering.{Ordering}
 use Rattle.std.specs.Ordering.{nat_cmp}
-use Rattle.std.specs.List.Sorted.{IsStrictlySortedBy}
-use Rattle.std.proofs.lemmas.List.Elements.{All-nil, All-cons, All-append, All-contains, All-weaker, Contains-get_or, Contains-append_left, Contains-append_right}
-use Rattle.dl_terms.specs.Order.{base_cmp, role_cmp}
+use Rattle.std.proofs.lemmas.List.Elements.{All-nil, All-cons, All-append, All-contains, Contains-get_or, Contains-append_left, Contains-append_right}
+use Rattle.dl_terms.specs.Order.{base_cmp}
 use Rattle.dl_terms.specs.Sets.{IsSetOf}
 use Rattle.dl_terms.specs.contracts.role.BaseOrd.TheImpl as base_impl
 use Rattle.dl_terms.specs.declared.role.Base.{Base}
@@ -162,13 +160,17 @@ module _ (signature : Signature) (normal : Normal) (p : Predicates) (are : ArePr
       → IsTrue answer ↔ All (λ q. Contains (basics p) q.0 × Contains (basics p) q.1) normal.concepts
       → IsTrue answer ↔ (HasNames signature normal × AreFew signature normal)
   names_told answer are_few known says = (
-    λ h. (record {
-        roles = λ k d w. let row = known k d w in
-            (base_named (get_or normal.roles k d).0.base (role-base p (get_or normal.roles k d).0 row.0),
-             base_named (get_or normal.roles k d).1.base (role-base p (get_or normal.roles k d).1 row.1));
+    λ h. (
+      record {
+        roles = λ k d w. let row = known k d w in (
+          base_named (get_or normal.roles k d).0.base (role-base p (get_or normal.roles k d).0 row.0),
+          base_named (get_or normal.roles k d).1.base (role-base p (get_or normal.roles k d).1 row.1),
+        );
         concepts = λ k d w. let row = says.0 h k d w in
             (basic_named (get_or normal.concepts k d).0 row.0, basic_named (get_or normal.concepts k d).1 row.1);
-      }, are_few),
+      },
+      are_few,
+    ),
     λ h. says.1 (concept_rows_known signature normal p are h.0),
   )
 
@@ -190,9 +192,10 @@ rows_told P slice rows {answer} same says = subst (λ l. IsTrue answer ↔ All P
 -- a sum of three counts, held at 2^64 - 1
 pub few_counted : (cs ps fs a b d names total : ℕ) → a ≡ cs → b ≡ ps → d ≡ fs → names ≡ min (a + b) (2 ^ 64 - 1) → total ≡ min (names + d) (2 ^ 64 - 1)
     → IsTrue (leb total max_predicates) ↔ (cs + ps + fs ≤ max_predicates)
-few_counted cs ps fs a b d names total e f g sum all =
-    (λ h. let k : total ≤ max_predicates = leb-true total max_predicates h in omega (arith, k, e, f, g, sum, all),
-     λ h. le-leb total max_predicates (omega (arith, h, e, f, g, sum, all)))
+few_counted cs ps fs a b d names total e f g sum all = (
+  λ h. let k : total ≤ max_predicates = leb-true total max_predicates h in omega (arith, k, e, f, g, sum, all),
+  λ h. le-leb total max_predicates (omega (arith, h, e, f, g, sum, all)),
+)
 
 -- few, where the set of the fillers makes it so
 pub few_told : (signature : Signature) (normal : Normal) (set : List Base) → IsSetOf (base_impl.cmp-value).it set (normal_fillers normal) → (answer : Bool)

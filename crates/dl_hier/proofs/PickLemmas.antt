@@ -1,5 +1,5 @@
 -- Items picked one after the other, and the predicates below what was asked.
-use Rattle.std.proofs.Common.{◌≡◌, ℕ, ◌+◌, ◌*◌, ◌<◌, ◌≤◌, ◌↔◌, ◌⊎◌, true, false, List, [], ◌∷◌, ◌++◌, length, take, get_or, All, Any, Contains, refl, sym, ap, subst, ◌∙◌, ⊎_elim, arith, inl, inr}
+use Rattle.std.proofs.Common.{◌≡◌, ℕ, ◌+◌, ◌*◌, ◌<◌, ◌≤◌, ◌↔◌, true, false, List, [], ◌∷◌, ◌++◌, length, take, get_or, Any, Contains, sym, ap, subst, ◌∙◌, ⊎_elim, arith}
 use Rattle.std.specs.declared.cmp.Ordering.{Ordering}
 use Rattle.std.specs.declared.cmp.Ordering.TheVariants.{Less}
 use Rattle.std.specs.Ordering.{nat_cmp}
@@ -15,8 +15,7 @@ use Rattle.dl_terms.specs.declared.role.Role.{Role}
 use Rattle.dl_terms.specs.declared.role.Basic.{Basic}
 use Rattle.dl_terms.specs.declared.role.Basic.TheVariants.{Class, SomeOf}
 use Rattle.dl_terms.specs.declared.axiom.Axiom.{Axiom}
-use Rattle.dl_reach.specs.Chain.{Chain as Walk}
-use Rattle.dl_reach.specs.Digraph.{Digraph, IsEdge, Leads, EndsBelow}
+use Rattle.dl_reach.specs.Digraph.{Digraph}
 use Rattle.dl_terms.proofs.MemberLemmas.{Contains-first, Contains-one}
 use Rattle.dl_hier.specs.Predicates.{Predicates, roles, basics}
 use Rattle.dl_hier.specs.Hierarchy.{IsHierarchyOf}
@@ -24,7 +23,7 @@ use Rattle.dl_hier.specs.Below.{IsBelowOneOf, AreThose}
 use Rattle.dl_hier.specs.Nodes.{StandsAt}
 use Rattle.dl_hier.specs.Graphs.{hierarchy_over, AreGraphsOf}
 use Rattle.dl_hier.specs.Picking.{ArePicked, AreTargets, LeadsToOneOf}
-use Rattle.dl_hier.proofs.SortedLemmas.{sorted-push, one_index}
+use Rattle.dl_hier.proofs.SortedLemmas.{sorted-push}
 use Rattle.dl_hier.proofs.MemberLemmas.{StandsAt-Contains, StandsAt-default, StandsAt-get}
 use Rattle.dl_hier.proofs.PredicateLemmas.{role-at_property, basic-at_class, basic-at_role}
 use Rattle.dl_hier.proofs.QueryLemmas.{then, Any-of, Any-member, leads_to_one, one_of_roles, one_of_basics}

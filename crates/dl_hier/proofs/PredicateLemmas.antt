@@ -1,13 +1,12 @@
 -- The roles and basic concepts of a hierarchy: in order, and at which index each stands.
-use Rattle.std.proofs.Common.{◌≡◌, Option, Some, None, MatchOption, ℕ, zero, suc, ◌+◌, ◌*◌, ◌<◌, ◌≤◌, Bool, true, false, not, List, [], ◌∷◌, ◌++◌, map, flat_map, length, get_or, All, Contains, refl, sym, ap, subst, ◌∙◌, ⊎_elim, ◌⊎◌, arith, length-append}
-use Rattle.std.specs.declared.cmp.Ordering.{Ordering}
-use Rattle.std.specs.declared.cmp.Ordering.TheVariants.{Less, Equal}
+use Rattle.std.proofs.Common.{◌≡◌, Option, Some, None, MatchOption, ℕ, zero, suc, ◌+◌, ◌*◌, ◌<◌, Bool, true, false, List, [], ◌∷◌, map, flat_map, length, get_or, All, Contains, refl, sym, ap, subst, ◌∙◌, ⊎_elim, arith, length-append}
+use Rattle.std.specs.declared.cmp.Ordering.TheVariants.{Less}
 use Rattle.std.specs.Ordering.{ordering_then, nat_cmp}
 use Rattle.std.specs.Cmp.{tied_itself}
 use Rattle.std.specs.List.Sorted.{IsStrictlySortedBy}
 use Rattle.std.proofs.lemmas.List.{length-map}
-use Rattle.std.proofs.lemmas.List.Elements.{All-from_recursion, recursion_from_All, All-nil, All-cons, All-append, All-map, All-weaker, All-from_get_or, All-contains, All-contains_itself, Contains-append_left, Contains-append_right, Contains-append_cases}
-use Rattle.dl_terms.specs.Roles.{named, inverse_of}
+use Rattle.std.proofs.lemmas.List.Elements.{All-from_recursion, All-nil, All-cons, All-map, All-weaker, All-from_get_or, All-contains, Contains-append_left, Contains-append_right, Contains-append_cases}
+use Rattle.dl_terms.specs.Roles.{inverse_of}
 use Rattle.dl_terms.specs.Order.{flag, base_cmp, role_cmp, basic_cmp}
 use Rattle.dl_terms.specs.declared.role.Base.{Base}
 use Rattle.dl_terms.specs.declared.role.Base.TheVariants.{Named, Filler}
@@ -15,11 +14,10 @@ use Rattle.dl_terms.specs.declared.role.Role.{Role}
 use Rattle.dl_terms.specs.declared.role.Basic.{Basic}
 use Rattle.dl_terms.specs.declared.role.Basic.TheVariants.{Class, SomeOf}
 use Rattle.dl_terms.proofs.OrderLemmas.{bases_linear, roles_linear, basics_linear}
-use Rattle.dl_terms.proofs.MemberLemmas.{Contains-first}
 use Rattle.dl_hier.specs.Predicates.{Predicates, both_ways, bases, roles, basics, IsFiller, AreInOrder}
 use Rattle.dl_hier.specs.Nodes.{StandsAt}
 use Rattle.dl_hier.proofs.SortedLemmas.{sorted-append, sorted-map, one_index}
-use Rattle.dl_hier.proofs.MemberLemmas.{Contains-map, Contains-map_of, Contains-flat_map, Contains-flat_map_of, All-flat_map, StandsAt-Contains, StandsAt-map, StandsAt-left, StandsAt-right}
+use Rattle.dl_hier.proofs.MemberLemmas.{Contains-map, Contains-map_of, Contains-flat_map, All-flat_map, StandsAt-Contains, StandsAt-map, StandsAt-left, StandsAt-right}
 
 -- a role name as a role
 abbrev pub way : Base → Bool → Role

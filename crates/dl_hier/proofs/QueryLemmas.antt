@@ -1,11 +1,11 @@
 -- From walks in a graph to what is below what.
-use Rattle.std.proofs.Common.{◌≡◌, ℕ, ◌+◌, ◌*◌, ◌<◌, ◌↔◌, ◌⊎◌, Bool, true, false, IsTrue, List, [], ◌∷◌, map, length, get_or, All, Any, Contains, refl, sym, ap, subst, ◌∙◌, inl, inr, ⊎_elim, arith, true≢false}
+use Rattle.std.proofs.Common.{◌≡◌, ℕ, ◌<◌, ◌↔◌, ◌⊎◌, Bool, false, IsTrue, List, map, length, get_or, Any, Contains, refl, subst, inl, inr, ⊎_elim, arith}
 use Rattle.dl_terms.specs.Chain.{Chain, empty, step}
-use Rattle.dl_terms.specs.Roles.{named, inverse_of}
+use Rattle.dl_terms.specs.Roles.{named}
 use Rattle.dl_terms.specs.Below.{RoleBelow, ConceptBelow}
 use Rattle.dl_terms.specs.declared.role.Role.{Role}
 use Rattle.dl_terms.specs.declared.role.Basic.{Basic}
-use Rattle.dl_terms.specs.declared.role.Basic.TheVariants.{Class, SomeOf}
+use Rattle.dl_terms.specs.declared.role.Basic.TheVariants.{Class}
 use Rattle.dl_terms.specs.declared.axiom.Axiom.{Axiom}
 use Rattle.dl_reach.specs.Chain.{Chain as Walk}
 use Rattle.dl_reach.specs.Digraph.{Digraph, Leads, EndsBelow}

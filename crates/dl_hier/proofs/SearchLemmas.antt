@@ -1,5 +1,5 @@
 -- What a binary search of a list that ascends strictly finds.
-use Rattle.std.proofs.Common.{◌≡◌, ℕ, ◌+◌, ◌<◌, ◌≤◌, Bool, true, false, List, length, get_or, Contains, refl, sym, ap, subst, ◌∙◌, ⊎_elim, true≢false, HoldsAt, arith}
+use Rattle.std.proofs.Common.{◌≡◌, ℕ, ◌+◌, ◌<◌, ◌≤◌, List, length, get_or, Contains, sym, ap, ◌∙◌, ⊎_elim, true≢false, HoldsAt, arith}
 use Rattle.std.specs.declared.cmp.Ordering.{Ordering}
 use Rattle.std.specs.declared.cmp.Ordering.TheVariants.{Less, Equal, Greater}
 use Rattle.std.specs.Ordering.{is_lt, is_gt, ordering_index, ordering_reverse}

@@ -1,5 +1,5 @@
 -- Lists that ascend strictly: where their items stand, how they are joined, and how long they are.
-use Rattle.std.proofs.Common.{◌≡◌, ℕ, suc, ◌<◌, ◌≤◌, ◌⊎◌, List, [], ◌∷◌, ◌++◌, map, length, get_or, All, Contains, remove, IsPermutation, refl, sym, ap, subst, ◌∙◌, true≢false, zero-le, arith, ⊎_elim}
+use Rattle.std.proofs.Common.{◌≡◌, ℕ, ◌<◌, ◌≤◌, List, [], ◌∷◌, ◌++◌, map, length, get_or, All, Contains, remove, sym, ap, ◌∙◌, true≢false, zero-le, arith, ⊎_elim}
 use Rattle.std.specs.declared.cmp.Ordering.{Ordering}
 use Rattle.std.specs.declared.cmp.Ordering.TheVariants.{Less}
 use Rattle.std.specs.Ordering.{is_lt}
@@ -11,7 +11,6 @@ use Rattle.std.proofs.lemmas.List.Sorted.{IsPermutation-remove, Contains-permuta
 use Rattle.std.proofs.lemmas.Map.Keys.{Less-from_sorted}
 use Rattle.dl_terms.specs.Sets.{IsSetOf}
 use Rattle.dl_terms.proofs.MemberLemmas.{Contains-first, Contains-later, Contains-cons}
-use Rattle.dl_hier.specs.Nodes.{StandsAt}
 
 -- ---- joined lists
 

@@ -1,5 +1,5 @@
 -- Chains of the steps that rows of inclusions give are what is below what, by any axioms with these rows.
-use Rattle.std.proofs.Common.{◌≡◌, ◌↔◌, ◌⊎◌, List, [], ◌∷◌, map, Contains, refl, sym, ap, ap₂, subst, ◌∙◌, ⊎_elim}
+use Rattle.std.proofs.Common.{◌≡◌, ◌↔◌, List, [], ◌∷◌, map, Contains, sym, ap, ap₂, subst, ◌∙◌, ⊎_elim}
 use Rattle.std.proofs.lemmas.List.Elements.{Contains-append_left, Contains-append_right, Contains-append_cases}
 use Rattle.dl_terms.specs.Chain.{Chain}
 use Rattle.dl_terms.specs.Roles.{inverse_of}

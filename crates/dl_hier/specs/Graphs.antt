@@ -2,7 +2,6 @@
 use Rattle.std.specs.Prelude.{◌≡◌, ℕ, ◌+◌, List, map, length}
 use Rattle.dl_terms.specs.Roles.{named}
 use Rattle.dl_terms.specs.declared.role.Role.{Role}
-use Rattle.dl_terms.specs.declared.role.Basic.{Basic}
 use Rattle.dl_terms.specs.declared.role.Basic.TheVariants.{Class}
 use Rattle.dl_reach.specs.Digraph.{Digraph, EndsBelow}
 use Rattle.dl_hier.specs.Predicates.{Predicates, AreInOrder, roles, basics}

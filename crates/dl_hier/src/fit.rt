@@ -32,7 +32,10 @@ fn are_few(alloc: Global, normal: &Normal, signature: &Signature) -> Result<bool
     ensures { IfOk result (λ few. IsTrue few ↔ AreFew signature.now normal.now) }
 {
     let fillers = set_of(fillers_of(alloc, normal)?);
-    let names = signature.classes.len().saturating_add(signature.roles.len());
+    let names = signature
+        .classes
+        .len()
+        .saturating_add(signature.roles.len());
     Ok(names.saturating_add(fillers.len()) <= MAX_PREDICATES)
 }
 

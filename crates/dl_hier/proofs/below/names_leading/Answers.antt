@@ -1,7 +1,5 @@
-use Rattle.std.proofs.Common.{◌+◌, ◌*◌, ◌≡◌, true, false, true≢false, sym, ◌∙◌}
+use Rattle.std.proofs.Common.{◌+◌, ◌*◌, true≢false, sym, ◌∙◌}
 use Rattle.std.specs.Cmp.{nat_cmp_total}
-use Rattle.dl_reach.specs.Chain.{Chain}
-use Rattle.dl_reach.specs.Digraph.{IsEdge}
 use Rattle.dl_hier.specs.Picking.{LeadsToOneOf}
 use Rattle.dl_hier.proofs.PickLemmas.{picked_none, picked_push, picked_pass, ArePickedTo-all}
 use Rattle.dl_hier.proofs.below.names_leading.Goals.{then-leads_to_one_of+in_ok-push, else-leads_to_one_of}

@@ -1,8 +1,7 @@
-use Rattle.std.proofs.Common.{◌+◌, ◌*◌, ◌≡◌, true, false, true≢false, sym, ◌∙◌}
+use Rattle.std.proofs.Common.{◌+◌, true≢false, sym, ◌∙◌}
 use Rattle.dl_terms.proofs.OrderLemmas.{roles_linear}
 use Rattle.dl_reach.specs.Chain.{Chain}
 use Rattle.dl_reach.specs.Digraph.{IsEdge}
-use Rattle.dl_hier.specs.Picking.{LeadsToOneOf}
 use Rattle.dl_hier.proofs.PickLemmas.{picked_none, picked_push, picked_pass, ArePickedTo-all}
 use Rattle.dl_hier.proofs.below.roles_reached.Goals.{then-has+in_ok-push, else-has}
 use Rattle.dl_hier.proofs.below.roles_reached.Goals as goal

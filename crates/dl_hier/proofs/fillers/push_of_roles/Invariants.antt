@@ -1,5 +1,5 @@
 use Rattle.std.proofs.Common.{◌≡◌, ◌++◌, take, flat_map}
-use Rattle.dl_hier.specs.Rows.{role_fillers, basic_fillers, negative_fillers}
+use Rattle.dl_hier.specs.Rows.{role_fillers}
 use Rattle.dl_hier.proofs.fillers.push_of_roles.Given as goal
 
 abbrev pub invariant-loop-sub : goal.invariant-loop-sub

@@ -1,4 +1,4 @@
-use Rattle.std.proofs.Common.{◌≡◌, length, subst, ap, ◌∙◌}
+use Rattle.std.proofs.Common.{subst}
 use Rattle.dl_terms.specs.Sets.{IsSetOf}
 use Rattle.dl_hier.proofs.NameLemmas.{few_told, few_counted}
 use Rattle.dl_hier.proofs.fit.are_few.Goals as goal
@@ -7,4 +7,4 @@ pub returns : goal.returns
 returns c =
     few_told c.args.signature.now c.args.normal.now c.set_of-fillers.result (subst (IsSetOf _ c.set_of-fillers.result) c.in_ok-fillers_of.ensures c.set_of-fillers.ensures) _
     (few_counted _ _ _ c.len.result c.len-2.result c.len-3.result c.saturating_add-names.result c.saturating_add.result c.len.ensures c.len-2.ensures
-     c.len-3.ensures c.saturating_add-names.ensures c.saturating_add.ensures)
+    c.len-3.ensures c.saturating_add-names.ensures c.saturating_add.ensures)

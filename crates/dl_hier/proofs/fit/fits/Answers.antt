@@ -1,4 +1,4 @@
-use Rattle.std.proofs.Common.{All, Contains, ap, sym, subst, ◌∙◌}
+use Rattle.std.proofs.Common.{Contains}
 use Rattle.dl_hier.specs.Predicates.{roles, basics}
 use Rattle.dl_hier.proofs.NameLemmas.{names_told, names_refused, rows_told}
 use Rattle.dl_hier.proofs.fit.fits.Goals as goal

@@ -11,12 +11,14 @@ loop-row-preserved c =
     c.loop-row-test.true c.loop-row.invariant (c.knows_both_roles.ensures.0 c.if-not-knows_both_roles.false)
 
 pub returns : goal.returns
-returns c =
-    (λ _. subst (All (λ p. Contains (roles c.args.nodes.now) p.0 × Contains (roles c.args.nodes.now) p.1))
-        (take_all c.loop-row.row-index c.args.rows.now c.loop-row-test.false) c.loop-row.invariant,
-     λ _. refl)
+returns c = (
+  λ _. subst (All (λ p. Contains (roles c.args.nodes.now) p.0 × Contains (roles c.args.nodes.now) p.1))
+      (take_all c.loop-row.row-index c.args.rows.now c.loop-row-test.false) c.loop-row.invariant,
+  λ _. refl,
+)
 
 pub returns-then-not-knows_both_roles : goal.returns-then-not-knows_both_roles
-returns-then-not-knows_both_roles c =
-    (λ h. absurd (true≢false (sym h)),
-     λ all. absurd (true≢false (sym (c.knows_both_roles.ensures.1 (all c.loop-row.row-index (named 0, named 0) c.loop-row-test.true)) ∙ c.if-not-knows_both_roles.true)))
+returns-then-not-knows_both_roles c = (
+  λ h. absurd (true≢false (sym h)),
+  λ all. absurd (true≢false (sym (c.knows_both_roles.ensures.1 (all c.loop-row.row-index (named 0, named 0) c.loop-row-test.true)) ∙ c.if-not-knows_both_roles.true)),
+)

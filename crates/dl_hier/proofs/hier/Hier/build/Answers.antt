@@ -1,4 +1,4 @@
-use Rattle.std.proofs.Common.{◌≡◌, ◌+◌, ◌≤◌, All, Contains, length, ap, sym, subst, ◌∙◌, arith}
+use Rattle.std.proofs.Common.{◌≡◌, ◌+◌, ◌≤◌, All, Contains, length, sym, subst, ◌∙◌, arith}
 use Rattle.dl_terms.specs.Roles.{named}
 use Rattle.dl_terms.specs.declared.role.Basic.TheVariants.{Class}
 use Rattle.dl_reach.specs.Digraph.{max_nodes}

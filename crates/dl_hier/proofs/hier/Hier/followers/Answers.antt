@@ -1,7 +1,6 @@
-use Rattle.std.proofs.Common.{Contains, length, ap, subst, refl, sym, ◌∙◌}
+use Rattle.std.proofs.Common.{Contains, subst}
 use Rattle.std.proofs.lemmas.Result.{IfOk-weaker}
 use Rattle.dl_terms.specs.Order.{role_cmp}
-use Rattle.dl_terms.specs.Below.{ConceptBelow}
 use Rattle.dl_terms.specs.declared.role.Basic.TheVariants.{SomeOf}
 use Rattle.dl_hier.specs.Predicates.{basics}
 use Rattle.dl_hier.specs.Nodes.{StandsAt}

@@ -1,7 +1,6 @@
-use Rattle.std.proofs.Common.{◌≡◌, ◌⊎◌, Contains, ap, sym, subst, ◌∙◌}
+use Rattle.std.proofs.Common.{◌≡◌, ◌⊎◌, Contains, sym, subst, ◌∙◌}
 use Rattle.std.specs.List.Sorted.{IsStrictlySortedBy}
 use Rattle.dl_terms.specs.Order.{role_cmp}
-use Rattle.dl_hier.specs.Predicates.{roles}
 use Rattle.dl_hier.specs.Hierarchy.{IsHierarchyOf}
 use Rattle.dl_hier.proofs.PredicateLemmas.{roles-ascend}
 use Rattle.dl_hier.proofs.QueryLemmas.{roles_known}

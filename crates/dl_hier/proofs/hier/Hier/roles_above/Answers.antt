@@ -1,4 +1,3 @@
-use Rattle.std.proofs.Common.{refl, sym, ◌∙◌}
 use Rattle.std.proofs.lemmas.Result.{IfOk-weaker}
 use Rattle.dl_terms.specs.Order.{role_cmp}
 use Rattle.dl_hier.proofs.HierLemmas.{sorted-none, role_nodes_few, list-ascends, above, above_none}

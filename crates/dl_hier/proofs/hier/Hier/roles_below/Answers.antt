@@ -1,5 +1,4 @@
 use Rattle.std.proofs.Common.{lit≤}
-use Rattle.dl_hier.specs.Predicates.{roles}
 use Rattle.dl_hier.proofs.HierLemmas.{targets_within, role_nodes_few, property_nodes, forward_below, backward_below}
 use Rattle.dl_hier.proofs.hier.Hier.roles_below.Goals as goal
 

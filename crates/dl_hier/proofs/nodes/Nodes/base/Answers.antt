@@ -1,6 +1,6 @@
-use Rattle.std.proofs.Common.{◌≡◌, Contains, length, ap, sym, subst, ◌∙◌, arith}
-use Rattle.dl_hier.specs.Predicates.{Predicates, AreInOrder, IsFiller}
-use Rattle.dl_hier.proofs.PredicateLemmas.{filler-known, base-at_filler, found, property-known, base-at_property, length-bases}
+use Rattle.std.proofs.Common.{◌≡◌, Contains, ap, sym, subst, ◌∙◌}
+use Rattle.dl_hier.specs.Predicates.{Predicates, IsFiller}
+use Rattle.dl_hier.proofs.PredicateLemmas.{filler-known}
 use Rattle.dl_hier.proofs.nodes.Nodes.base.Goals as goal
 
 pub returns-in-None-clause-index : goal.returns-in-None-clause-index

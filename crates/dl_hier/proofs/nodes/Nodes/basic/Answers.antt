@@ -1,6 +1,5 @@
 use Rattle.std.proofs.Common.{◌≡◌, ◌+◌, Contains, length, ap, sym, subst, ◌∙◌, arith}
-use Rattle.dl_terms.specs.declared.role.Basic.TheVariants.{Class, SomeOf}
-use Rattle.dl_hier.specs.Predicates.{Predicates, AreInOrder, roles, basics}
+use Rattle.dl_hier.specs.Predicates.{Predicates, AreInOrder, basics}
 use Rattle.dl_hier.specs.Nodes.{StandsAt}
 use Rattle.dl_hier.proofs.PredicateLemmas.{found, length-roles, class-known, some-known, basic-at_class, basic-at_role}
 use Rattle.dl_hier.proofs.nodes.Nodes.basic.Goals as goal

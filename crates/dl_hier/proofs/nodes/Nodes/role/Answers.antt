@@ -1,4 +1,4 @@
-use Rattle.std.proofs.Common.{◌≡◌, ◌+◌, ◌*◌, ap, subst, ◌∙◌, arith}
+use Rattle.std.proofs.Common.{◌≡◌, ◌+◌, ◌*◌, ap, subst, arith}
 use Rattle.dl_terms.specs.Order.{flag}
 use Rattle.dl_hier.specs.Predicates.{roles}
 use Rattle.dl_hier.specs.Nodes.{StandsAt}
