@@ -1,4 +1,4 @@
--- Which predicates are below what is asked.
+-- Which predicates are below what is asked (concept below of DL-Lite_R).
 use Rattle.std.specs.Prelude.{ℕ, ◌↔◌, List, Contains, Any}
 use Rattle.std.specs.List.Sorted.{IsStrictlyIncreasing}
 use Rattle.dl_terms.specs.Below.{ConceptBelow}

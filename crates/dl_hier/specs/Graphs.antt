@@ -1,4 +1,4 @@
--- The two graphs of a hierarchy: of its roles, and of its basic concepts.
+-- The two graphs of a hierarchy: of its roles, and of its basic concepts. For private functions.
 use Rattle.std.specs.Prelude.{◌≡◌, ℕ, ◌+◌, List, map, length}
 use Rattle.dl_terms.specs.Roles.{named}
 use Rattle.dl_terms.specs.declared.role.Role.{Role}

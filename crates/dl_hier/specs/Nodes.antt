@@ -1,4 +1,4 @@
--- Terms as the nodes of a graph: a term's node is its index in a list.
+-- Terms as the nodes of a graph: a term's node is its index in a list. For private functions.
 use Rattle.std.specs.Prelude.{◌≡◌, ℕ, ◌<◌, List, length, slice_index_or}
 
 -- the item stands at the index

@@ -1,4 +1,4 @@
--- Items of a list that were picked by their indexes.
+-- Items of a list that were picked by their indexes, for private functions.
 use Rattle.std.specs.Prelude.{ℕ, ◌↔◌, List, Contains, Any}
 use Rattle.std.specs.declared.cmp.Ordering.{Ordering}
 use Rattle.std.specs.List.Sorted.{IsStrictlySortedBy}
@@ -11,7 +11,8 @@ abbrev pub LeadsToOneOf : Digraph → List ℕ → ℕ → Type 0
 LeadsToOneOf graph targets node = Any (λ t. Chain (IsEdge graph) node t) targets
 
 -- ascending, exactly the items at the indexes of which something holds
-pub record ArePicked {A : Type 0} (cmp : A → A → Ordering) (items : List A) (IsThat : ℕ → Type 0) (found : List A) : Type 0 where
+pub record ArePicked {A : Type 0} (cmp : A → A → Ordering) (items : List A) (IsThat : ℕ → Type 0) (found : List A)
+    : Type 0 where
   pub ascending : IsStrictlySortedBy cmp found
   pub exact : (x : A) → Contains found x ↔ ((k : ℕ) × StandsAt items k x × IsThat k)
 

@@ -1,4 +1,4 @@
--- The predicates of a hierarchy, and its roles and basic concepts in order.
+-- The predicates of a hierarchy, and its roles and basic concepts in order. Their limit is this project's own.
 use Rattle.std.specs.Prelude.{ℕ, ◌+◌, ◌≤◌, true, false, List, [], ◌∷◌, ◌++◌, map, length, All}
 use Rattle.std.specs.List.{flat_map}
 use Rattle.std.specs.List.Sorted.{IsStrictlySortedBy}

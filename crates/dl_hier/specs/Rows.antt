@@ -1,4 +1,5 @@
--- The rows of a normal form from which a hierarchy is built, and what they name.
+-- The rows of a normal form from which a hierarchy is built, and what they name. The steps are the inclusions of
+-- DL-Lite_R; fillers are this project's own.
 use Rattle.std.specs.Prelude.{◌≡◌, ℕ, ◌+◌, ◌≤◌, List, [], ◌∷◌, ◌++◌, map, length, All, Contains}
 use Rattle.std.specs.List.{flat_map}
 use Rattle.std.specs.Ordering.{nat_cmp}
@@ -36,7 +37,8 @@ IsBasicIn classes properties (SomeOf r) = IsNamedIn properties r.base
 pub record HasNames (signature : Signature) (normal : Normal) : Type 0 where
   pub roles : All (λ p. IsNamedIn signature.roles p.0.base × IsNamedIn signature.roles p.1.base) normal.roles
   pub concepts :
-      All (λ p. IsBasicIn signature.classes signature.roles p.0 × IsBasicIn signature.classes signature.roles p.1) normal.concepts
+      All (λ p. IsBasicIn signature.classes signature.roles p.0 × IsBasicIn signature.classes signature.roles p.1)
+      normal.concepts
 
 -- the fillers among role names
 abbrev pub base_fillers : Base → List Base

@@ -12,8 +12,8 @@ use dl_reach::Closure;
 use dl_terms::{List, NoMemory, Role};
 use std::alloc::Global;
 
-/// The predicates below what was asked, each list ascending: classes, object properties as they stand, and object properties whose
-/// inverse is meant.
+/// The predicates below what was asked, each list ascending: classes, object properties as they stand, and object
+/// properties whose inverse is meant.
 #[derive(Drop)]
 pub struct Below {
     pub classes: List<u32>,
@@ -21,8 +21,8 @@ pub struct Below {
     pub backward: List<u32>,
 }
 
-/// The names of which a chain leads to one of the targets: the node of the first name is `first`, and that of each later one is
-/// `every` nodes further.
+/// The names of which a chain leads to one of the targets: the node of the first name is `first`, and that of each
+/// later one is `every` nodes further.
 pub(crate) fn names_leading(
     alloc: Global,
     closure: &Closure,

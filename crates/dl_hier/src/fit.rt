@@ -11,8 +11,8 @@ use std::alloc::Global;
 /// The most classes, object properties and fillers together that a hierarchy may have.
 pub const MAX_PREDICATES: usize = 4096;
 
-/// Whether a hierarchy can be built from these: the signature has the names of the inclusions, and classes, object properties and
-/// fillers together are at most `MAX_PREDICATES`. Fails only for want of memory.
+/// Whether a hierarchy can be built from these: the signature has the names of the inclusions, and classes, object
+/// properties and fillers together are at most `MAX_PREDICATES`. Fails only for want of memory.
 pub fn fits(alloc: Global, normal: &Normal, signature: &Signature) -> Result<bool, NoMemory>
     ensures { IfOk result (λ fit. IsTrue fit ↔
         (HasNames signature.now normal.now × AreFew signature.now normal.now)) }

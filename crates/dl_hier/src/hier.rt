@@ -20,9 +20,9 @@ use dl_terms::{Basic, List, NoMemory, Normal, Role, Signature};
 use std::alloc::{AllocError, Global};
 use std::marker::Model;
 
-/// What is below what among the roles and the basic concepts of a signature and a normal form. What isn't in the hierarchy is below
-/// itself alone. A clause on it holds of every list of axioms of which it is the hierarchy: of all whose normal form has the inclusions
-/// that it was built from.
+/// What is below what among the roles and the basic concepts of a signature and a normal form. What isn't in the
+/// hierarchy is below itself alone. A clause on it holds of every list of axioms of which it is the hierarchy: of all
+/// whose normal form has the inclusions that it was built from.
 #[derive(Drop)]
 pub struct Hier {
     nodes: Nodes,
@@ -43,8 +43,8 @@ impl Model for Hier {
 }
 
 impl Hier {
-    /// The hierarchy of the inclusions of a normal form, over the predicates of a signature, which has their names. Classes, roles and
-    /// fillers together are at most 4,096. Fails only for want of memory.
+    /// The hierarchy of the inclusions of a normal form, over the predicates of a signature, which has their names.
+    /// Classes, roles and fillers together are at most 4,096. Fails only for want of memory.
     pub fn build(alloc: Global, normal: &Normal, signature: &Signature) -> Result<Hier, NoMemory>
         requires names { HasNames signature.now normal.now }
         requires few { AreFew signature.now normal.now }
@@ -69,8 +69,8 @@ impl Hier {
         })
     }
 
-    /// Whether one role is below another: whether a chain of role inclusions, or of their inverses, leads from the one to the other.
-    /// It takes no memory.
+    /// Whether one role is below another: whether a chain of role inclusions, or of their inverses, leads from the
+    /// one to the other. It takes no memory.
     pub fn role_below(&self, sub: Role, sup: Role) -> bool
         ensures { (axioms : Items Axiom) → IsHierarchyOf self.now axioms →
             (IsTrue result ↔ RoleBelow axioms sub sup) }
@@ -84,8 +84,8 @@ impl Hier {
         }
     }
 
-    /// Whether one basic concept is below another: whether a chain leads from the one to the other, each step a concept inclusion, or a
-    /// step from "some r" to "some s" with r below s. It takes no memory.
+    /// Whether one basic concept is below another: whether a chain leads from the one to the other, each step a
+    /// concept inclusion, or a step from "some r" to "some s" with r below s. It takes no memory.
     pub fn basic_below(&self, sub: Basic, sup: Basic) -> bool
         ensures { (axioms : Items Axiom) → IsHierarchyOf self.now axioms →
             (IsTrue result ↔ ConceptBelow axioms sub sup) }
@@ -99,8 +99,8 @@ impl Hier {
         }
     }
 
-    /// The roles of the hierarchy, ascending, each once: every object property of the signature and every filler that the normal form
-    /// names, each plain and inverse. It takes no memory.
+    /// The roles of the hierarchy, ascending, each once: every object property of the signature and every filler that
+    /// the normal form names, each plain and inverse. It takes no memory.
     pub fn roles(&self) -> &[Role]
         ensures roles { result.now ≡ roles self.now.predicates }
         ensures ascending { IsStrictlySortedBy role_cmp result.now }
@@ -113,8 +113,9 @@ impl Hier {
         self.roles.as_slice()
     }
 
-    /// The predicates below one of the basic concepts, each list ascending: the classes of the signature, the object properties P of it
-    /// with "some P" below one, and those with "some inverse of P" below one. Fails only for want of memory.
+    /// The predicates below one of the basic concepts, each list ascending: the classes of the signature, the object
+    /// properties P of it with "some P" below one, and those with "some inverse of P" below one. Fails only for want
+    /// of memory.
     pub fn predicates_below(&self, alloc: Global, basics: &[Basic]) -> Result<Below, NoMemory>
         ensures classes { IfOk result (λ below.
             (axioms : Items Axiom) → IsHierarchyOf self.now axioms →
@@ -141,8 +142,8 @@ impl Hier {
         })
     }
 
-    /// The object properties of the signature below a role, each list ascending: the P that are below it, and those whose inverse is.
-    /// There are no classes. Fails only for want of memory.
+    /// The object properties of the signature below a role, each list ascending: the P that are below it, and those
+    /// whose inverse is. There are no classes. Fails only for want of memory.
     pub fn roles_below(&self, alloc: Global, role: Role) -> Result<Below, NoMemory>
         ensures classes { IfOk result (λ below. below.classes ≡ []) }
         ensures forward { IfOk result (λ below.
@@ -179,8 +180,8 @@ impl Hier {
         }
     }
 
-    /// The roles of the hierarchy that may follow a role in the words of unnamed elements, ascending: the t with "some inverse of the
-    /// role" below "some t". Fails only for want of memory.
+    /// The roles of the hierarchy that may follow a role in the words of unnamed elements, ascending: the t with
+    /// "some inverse of the role" below "some t". Fails only for want of memory.
     pub fn followers(&self, alloc: Global, role: Role) -> Result<List<Role>, NoMemory>
         ensures ascending { IfOk result (IsStrictlySortedBy role_cmp) }
         ensures exact { IfOk result (λ found.

@@ -1,4 +1,4 @@
--- The pairs of role and class for which a normal form has a filler.
+-- The pairs of role and class for which a normal form has a filler. Fillers are this project's own.
 use Rattle.std.specs.Prelude.{◌≡◌, ◌≢◌, ◌↔◌, ◌⊎◌, ℕ, List, [], ◌∷◌, ◌++◌, map, length, Contains, AllPairs}
 use Rattle.std.specs.List.{flat_map, filter_map}
 use Rattle.std.specs.declared.option.Option.{Option}

@@ -1,4 +1,4 @@
--- A normal form that is being made.
+-- A normal form that is being made, for private functions.
 use Rattle.std.specs.Prelude.{◌≡◌, ℕ, List, ◌++◌, map}
 use Rattle.std.specs.List.{filter_map}
 use Rattle.dl_terms.specs.NormalForm.{Row, as_role_in, as_concept_in, as_negative}

@@ -1,4 +1,5 @@
--- The normal form sorted into its three lists, with each negative beside the index of its axiom.
+-- The normal form sorted into its three lists, with each negative beside the index of its axiom. The rows are those of
+-- `NormalForm` of `dl_terms`; that they are sorted is this project's own.
 use Rattle.std.specs.Prelude.{◌≡◌, ℕ, List, map}
 use Rattle.std.specs.List.{flat_map, filter_map, enumerate_from}
 use Rattle.dl_terms.specs.NormalForm.{axiom_rows, as_negative, role_inclusions, concept_inclusions}

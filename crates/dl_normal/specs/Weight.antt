@@ -1,4 +1,4 @@
--- How large a normal form is.
+-- How large a normal form is. That measure is this project's own.
 use Rattle.std.specs.Prelude.{ℕ, List, length, max}
 use Rattle.std.specs.List.{sum_by}
 use Rattle.dl_terms.specs.NormalForm.{axiom_rows}

@@ -8,8 +8,8 @@ ghost use Rattle.dl_normal.specs.Filled.{parts_of, filled, filled_pairs, row_bas
 use dl_terms::{Axiom, List, NoMemory, Part, Role, set_of};
 use std::alloc::Global;
 
-/// How many different pairs of role and class are in parts "some role in class" of the axioms, which are as many fillers. Fails only for
-/// want of memory.
+/// How many different pairs of role and class are in parts "some role in class" of the axioms, which are as many
+/// fillers. Fails only for want of memory.
 pub fn fillers(alloc: Global, axioms: &[Axiom]) -> Result<u64, NoMemory>
     ensures { IfOk result (HasDistinct (filled_pairs axioms.now)) }
 {
@@ -52,8 +52,9 @@ fn push_filled_part(pairs: &mut List<(Role, u32)>, part: Part) -> Result<(), NoM
     }
 }
 
-/// The law of fillers: each role name in the rows of axioms that have no filler is one of the input, or the filler of a pair of role and
-/// class in a part "some role in class" of these axioms. So no more fillers are in the rows than `fillers` counts.
+/// The law of fillers: each role name in the rows of axioms that have no filler is one of the input, or the filler of
+/// a pair of role and class in a part "some role in class" of these axioms. So no more fillers are in the rows than
+/// `fillers` counts.
 pub fn fillers_are_of_parts()
     ensures { (axioms : Items Axiom) → All HasNoFiller axioms → (row : Row) →
         Contains (rows_of axioms) row → All (IsOfAxioms axioms) (row_bases row) }

@@ -10,8 +10,8 @@ use crate::roles::{filler_of, inverse_of};
 use dl_terms::{Axiom, Basic, List, Negative, NoMemory, Normal, Part, Role};
 use std::alloc::Global;
 
-/// The normal form of the axioms: the rows of each in their order, sorted into role inclusions, concept inclusions and negatives.
-/// Each negative is beside the index of its axiom in the list, from 0. Fails only for want of memory.
+/// The normal form of the axioms: the rows of each in their order, sorted into role inclusions, concept inclusions
+/// and negatives. Each negative is beside the index of its axiom in the list, from 0. Fails only for want of memory.
 pub fn normal(alloc: Global, axioms: &[Axiom]) -> Result<Normal, NoMemory>
     requires { length axioms.now < 2 ^ 32 }
     ensures rows { IfOk result (IsNormalForm axioms.now) }

@@ -1,4 +1,5 @@
-// The normal form of axioms: role inclusions, concept inclusions and negatives. Its size, and its fillers, without making it.
+// The normal form of axioms: role inclusions, concept inclusions and negatives. Its size, and its fillers, without
+// making it.
 #![tactic(auto)]
 
 mod filled;

@@ -6,8 +6,8 @@ ghost use Rattle.dl_normal.specs.Weight.{total_weight};
 
 use dl_terms::{Axiom, Part};
 
-/// The sum over the axioms of the number of their rows in the normal form, at least 1 for each. A sum over 2^64 - 1 is given as that
-/// number. It takes no memory.
+/// The sum over the axioms of the number of their rows in the normal form, at least 1 for each. A sum over 2^64 - 1
+/// is given as that number. It takes no memory.
 pub fn weight(axioms: &[Axiom]) -> u64
     ensures { result ≡ min (total_weight axioms.now) (2 ^ 64 - 1) }
 {
