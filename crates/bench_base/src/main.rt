@@ -2,6 +2,7 @@
 #![tactic(auto)]
 
 mod answer;
+mod hierarchy;
 mod lex;
 mod reach;
 mod triples;
@@ -19,6 +20,7 @@ fn main(rt: HostRuntime) -> io::Result<ExitCode> {
         Some(word) if word.as_str() == "lex" => lex::run(&rt, &words)?,
         Some(word) if word.as_str() == "answer" => answer::run(&rt, &words),
         Some(word) if word.as_str() == "triples" => triples::run(&rt, &words)?,
+        Some(word) if word.as_str() == "hierarchy" => hierarchy::run(&rt, &words)?,
         _ => false,
     };
     if done {
@@ -28,5 +30,6 @@ fn main(rt: HostRuntime) -> io::Result<ExitCode> {
     eprintln!(rt; "bench_base {}", lex::WORDS)?;
     eprintln!(rt; "bench_base {}", answer::WORDS)?;
     eprintln!(rt; "bench_base {}", triples::WORDS)?;
+    eprintln!(rt; "bench_base {}", hierarchy::WORDS)?;
     Ok(ExitCode::FAILURE)
 }

@@ -3,6 +3,8 @@
 #![tactic(auto)]
 
 #[cfg(test)]
+mod hier;
+#[cfg(test)]
 mod intervals;
 #[cfg(test)]
 mod io;
@@ -10,6 +12,8 @@ mod io;
 mod lex;
 #[cfg(test)]
 mod names;
+#[cfg(test)]
+mod normal;
 #[cfg(test)]
 mod owl;
 #[cfg(test)]
