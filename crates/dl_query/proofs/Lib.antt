@@ -1,0 +1,16 @@
+pub mod ReadingLemmas
+pub mod GrammarLemmas
+pub mod ReadLemmas
+pub mod NumberLemmas
+pub mod ResultLemmas
+pub mod SeenLemmas
+pub mod SeenFaultLemmas
+pub mod StepLemmas
+pub mod VariableLemmas
+pub mod BodyLemmas
+pub mod JudgeLemmas
+pub mod HeadLemmas
+pub mod StatementLemmas
+pub mod TokenLemmas
+pub mod QueryLemmas
+pub mod RankingLemmas
