@@ -17,6 +17,8 @@ mod normal;
 #[cfg(test)]
 mod owl;
 #[cfg(test)]
+mod query;
+#[cfg(test)]
 mod reach;
 #[cfg(test)]
 mod run;
