@@ -5,7 +5,9 @@ use std::alloc::{AllocError, Global};
 use std::test::Fail;
 
 const X: Term = Term::Var(0);
+
 const Y: Term = Term::Var(1);
+
 const Z: Term = Term::Var(2);
 
 /// A text, and the query that it is: its names by first occurrence, head, atoms and number of variables.
@@ -303,7 +305,13 @@ fn texts_fail_at_their_first_fault(rt: HostRuntime) {
 
 #[test]
 fn bytes_that_are_no_characters_are_no_iri(rt: HostRuntime) {
-    assert!(rt; fails(rt.alloc(), b"q(?x) :- <A\xff>(?x)", QueryFault::Syntax { at: 9 }));
+    assert!(rt;
+        fails(
+            rt.alloc(),
+            b"q(?x) :- <A\xff>(?x)",
+            QueryFault::Syntax { at: 9 }
+        )
+    );
 }
 
 /// A text of so many atoms, each with two variables of its own.
