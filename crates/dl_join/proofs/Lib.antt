@@ -1,0 +1,11 @@
+pub mod ListLemmas
+pub mod PairLemmas
+pub mod ProbeLemmas
+pub mod OrderLemmas
+pub mod JoinLemmas
+pub mod NeedLemmas
+pub mod NarrowLemmas
+pub mod SearchLemmas
+pub mod LevelLemmas
+pub mod MergeLemmas
+pub mod GatherLemmas

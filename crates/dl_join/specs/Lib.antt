@@ -1,0 +1,6 @@
+pub mod Disjuncts
+pub mod Tuples
+pub mod Needs
+pub mod Searching
+pub mod Probing
+pub mod Gathering

@@ -1,0 +1,17 @@
+// Joins of the lists of probes, and the union of two answers.
+#![tactic(auto)]
+
+mod fault;
+mod gather;
+mod joined;
+mod meet;
+mod merged;
+mod need;
+mod order;
+mod probe;
+mod search;
+mod turn;
+
+pub use fault::JoinFault;
+pub use joined::join;
+pub use merged::merge;

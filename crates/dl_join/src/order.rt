@@ -1,0 +1,119 @@
+// The order of the variables: connected to those before, the smallest list first, ties by number.
+ghost use Rattle.std.specs.Prelude.{◌≡◌, ℕ, ◌<◌, ◌↔◌, length, IfOk, OnOk, IsTrue};
+ghost use Rattle.std.specs.List.{Contains};
+ghost use Rattle.dl_join.specs.Probing.{OrdersAll, AddsVariables, is_first};
+
+use crate::need::Need;
+use std::alloc::{AllocError, Global};
+
+/// The variables of needs in the order of the search: of those that a need joins with one before, or of all where
+/// there is none, the one whose smallest list is the smallest, and of those the one with the least number.
+pub fn order_of(alloc: Global, needs: &[Need<'_>]) -> Result<Vec<u8>, AllocError>
+    ensures { IfOk result (λ order. OrdersAll order.items needs.now) }
+{
+    let mut waiting = variables_of(alloc, needs)?;
+    let mut order = Vec::new(alloc);
+    while !waiting.is_empty() {
+        let place = place_of_next(needs, order.as_slice(), waiting.as_slice());
+        let var = waiting.swap_remove(place);
+        add(&mut order, var)?;
+    }
+    Ok(order)
+}
+
+// Adds a variable that isn't there yet.
+fn add(order: &mut Vec<u8>, var: u8) -> Result<(), AllocError>
+    ensures there { OnOk result (Contains order.new.items var) }
+    ensures kept { OnOk result ((v : ℕ) → Contains order.old.items v → Contains order.new.items v) }
+{
+    if has(order.as_slice(), var) {
+        return Ok(());
+    }
+    order.push(var)?;
+    Ok(())
+}
+
+fn has(vars: &[u8], var: u8) -> bool
+    ensures { IsTrue result → Contains vars.now var }
+{
+    for v in vars {
+        if *v == var {
+            return true;
+        }
+    }
+    false
+}
+
+// The variables of needs, as often as they stand there.
+fn variables_of(alloc: Global, needs: &[Need<'_>]) -> Result<Vec<u8>, AllocError>
+    ensures { IfOk result (λ vars. OrdersAll vars.items needs.now) }
+{
+    let mut vars = Vec::new(alloc);
+    for need in needs {
+        push_variables(&mut vars, need)?;
+    }
+    Ok(vars)
+}
+
+fn push_variables(vars: &mut Vec<u8>, need: &Need<'_>) -> Result<(), AllocError>
+    ensures { OnOk result (AddsVariables need.now vars.old.items vars.new.items) }
+{
+    vars.push(need.at)?;
+    if let Some(other) = need.other {
+        vars.push(other)?;
+    }
+    Ok(())
+}
+
+// Where the variable stands that comes next.
+fn place_of_next(needs: &[Need<'_>], before: &[u8], waiting: &[u8]) -> usize
+    requires { 0 < length waiting.now }
+    ensures { result < length waiting.now }
+{
+    let mut place = 0;
+    let mut least = rank(needs, before, waiting[0]);
+    for (i, var) in waiting.iter().enumerate() {
+        let other = rank(needs, before, *var);
+        if other < least {
+            place = i;
+            least = other;
+        }
+    }
+    place
+}
+
+// What is smaller comes first: whether no need joins the variable with one before, the length of its smallest
+// list, and its number.
+fn rank(needs: &[Need<'_>], before: &[u8], var: u8) -> (bool, usize, u8) {
+    let mut apart = true;
+    let mut size = usize::MAX;
+    for need in needs {
+        let neighbour = if need.at == var {
+            need.other
+        } else if need.other == Some(var) {
+            Some(need.at)
+        } else {
+            continue;
+        };
+        size = size.min(need.pairs.len());
+        if neighbour.is_some_and(|other| has(before, other)) {
+            apart = false;
+        }
+    }
+    (apart, size, var)
+}
+
+/// True where, of two variables, an order has the first one first.
+pub fn is_before(order: &[u8], one: u8, two: u8) -> bool
+    ensures { result ≡ is_first order.now one two }
+{
+    for var in order {
+        if *var == one {
+            return true;
+        }
+        if *var == two {
+            return false;
+        }
+    }
+    false
+}
