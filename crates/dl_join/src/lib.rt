@@ -9,9 +9,11 @@ mod merged;
 mod need;
 mod order;
 mod probe;
+mod safe;
 mod search;
 mod turn;
 
 pub use fault::JoinFault;
 pub use joined::join;
 pub use merged::merge;
+pub use safe::is_safe;
