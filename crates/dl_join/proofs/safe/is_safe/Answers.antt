@@ -12,14 +12,14 @@ pub returns-then-not-some_has : goal.returns-then-not-some_has
 returns-then-not-some_has c = (
   λ e. absurd (true≢false (sym e)),
   λ safe.
-    let k = c.loop-term.term-index in
-    let lt = rw c.as_slice-term-items.ensures at c.loop-term-test.true in
-    let is = rw c.as_slice-term-items.ensures at c.in-Var.is in
-    let there : Contains c.args.disjunct.now.head (Var c.in-Var.v) = (k, lt, get_or_default c.args.disjunct.now.head k (Var c.in-Var.v) _ lt ∙ is) in
-    let any = safe c.in-Var.v there in
-    let found = c.some_has.ensures.1 (rw c.as_slice.ensures any) in
-    let missed = c.if-not-some_has.true in
-    absurd (true≢false (sym found ∙ missed)),
+      let k = c.loop-term.term-index in
+      let lt = rw c.as_slice-term-items.ensures at c.loop-term-test.true in
+      let is = rw c.as_slice-term-items.ensures at c.in-Var.is in
+      let there : Contains c.args.disjunct.now.head (Var c.in-Var.v) = (k, lt, get_or_default c.args.disjunct.now.head k (Var c.in-Var.v) _ lt ∙ is) in
+      let any = safe c.in-Var.v there in
+      let found = c.some_has.ensures.1 (rw c.as_slice.ensures any) in
+      let missed = c.if-not-some_has.true in
+      absurd (true≢false (sym found ∙ missed)),
 )
 
 pub loop-term-preserved : goal.loop-term-preserved

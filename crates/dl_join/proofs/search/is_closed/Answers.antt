@@ -1,3 +1,4 @@
+use Rattle.std.proofs.Common.{sym, true≢false}
 use Rattle.std.proofs.lemmas.List.{take_all}
 use Rattle.std.proofs.lemmas.List.Elements.{All-more}
 use Rattle.dl_join.specs.Searching.{IsName}
@@ -9,3 +10,6 @@ loop-term-preserved c = All-more IsName c.args.head.now c.loop-term.term-index _
 
 pub returns : goal.returns
 returns c = λ _. rw (← take_all c.loop-term.term-index c.args.head.now c.loop-term-test.false) c.loop-term.invariant
+
+pub returns-in-Var : goal.returns-in-Var
+returns-in-Var c = λ e. absurd (true≢false (sym e))
