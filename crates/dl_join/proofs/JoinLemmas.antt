@@ -11,12 +11,12 @@ use Rattle.dl_terms.specs.declared.query.Disjunct.{Disjunct}
 use Rattle.dl_join.specs.declared.need.Need.{Need}
 use Rattle.dl_join.specs.declared.need.Column.TheVariants.{First}
 use Rattle.dl_join.specs.declared.gather.Gathered.{Gathered}
-use Rattle.dl_join.specs.Disjuncts.{ProbeHolds, IsTuple, HasVariable, IsSafe, AreSorted}
+use Rattle.dl_join.specs.Disjuncts.{AllHold, ProbeHolds, IsTuple, HasVariable, IsSafe, AreSorted}
 use Rattle.dl_join.specs.Tuples.{AreExactly, AreMoreThan}
 use Rattle.dl_join.specs.Gathering.{Has, Gathers}
 use Rattle.dl_join.specs.Needs.{AreAscending, NeedHolds, Mentions}
 use Rattle.dl_join.specs.Searching.{IsGiven, IsReady}
-use Rattle.dl_join.specs.Probing.{IsClosed, kept_pairs, IsNeedOf, AreKept, AreNeedsOf, AllHold, IsBackward, AreTurned, AreTurnedLists, IsFitted, AreFitted, CanBeFitted}
+use Rattle.dl_join.specs.Probing.{IsClosed, kept_pairs, IsNeedOf, AreKept, AreNeedsOf, IsBackward, AreTurned, AreTurnedLists, IsFitted, AreFitted, CanBeFitted}
 use Rattle.dl_join.proofs.ListLemmas.{Any-append_left, Any-append_right, Any-first, Any-Contains}
 use Rattle.dl_join.proofs.GatherLemmas.{AreMoreThan-weaker}
 use Rattle.dl_join.proofs.OrderLemmas.{sorted_ascending}

@@ -1,5 +1,6 @@
--- The tuples of a disjunct over names: those that names for its variables give to its head while each of its probes holds over its
--- list. So it is a conjunctive query over stored pairs (Abiteboul, Hull, Vianu, Foundations of Databases, 1995).
+-- The tuples of a disjunct over names: those that names for its variables give to its head while each of its
+-- probes holds over its list. So it is a conjunctive query over stored pairs (Abiteboul, Hull, Vianu, Foundations of
+-- Databases, 1995).
 use Rattle.std.specs.Prelude.{◌≡◌, ℕ, ◌<◌, ◌⊎◌, List, [], length, map, slice_index_or}
 use Rattle.std.specs.List.{All, Any, Contains}
 use Rattle.std.specs.List.Sorted.{IsSorted}
@@ -21,10 +22,15 @@ abbrev pub ProbeHolds : (ℕ → ℕ) → List (ℕ × ℕ) → Probe → Type 0
 ProbeHolds names pairs (AnyOf basics t) = (second : ℕ) × Contains pairs (name_of names t, second)
 ProbeHolds names pairs (Joined role t u) = Contains pairs (name_of names t, name_of names u)
 
+-- each probe holds over its list
+abbrev pub AllHold : (ℕ → ℕ) → List Probe → List (List (ℕ × ℕ)) → Type 0
+AllHold names probes lists = (k : ℕ) (p : Probe) → k < length probes
+    → ProbeHolds names (slice_index_or lists k []) (slice_index_or probes k p)
+
 -- a tuple of a disjunct over one list for each of its probes
 pub record IsTuple (d : Disjunct) (lists : List (List (ℕ × ℕ))) (tuple : List ℕ) : Type 0 where
   pub names : ℕ → ℕ
-  pub probes : (k : ℕ) (p : Probe) → k < length d.probes → ProbeHolds names (slice_index_or lists k []) (slice_index_or d.probes k p)
+  pub probes : AllHold names d.probes lists
   pub head : map (name_of names) d.head ≡ tuple
 
 -- a variable of a probe

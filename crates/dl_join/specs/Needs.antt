@@ -14,7 +14,8 @@ in_column Second p = p.1
 -- pairs in order by a column, and those with one name there by the second column
 pub record AreAscending (column : Column) (pairs : List (ℕ × ℕ)) : Type 0 where
   pub names : IsNonDecreasingBy (in_column column) pairs
-  pub seconds : (i j : ℕ) (d : ℕ × ℕ) → i ≤ j → j < length pairs → in_column column (slice_index_or pairs i d) ≡ in_column column (slice_index_or pairs j d)
+  pub seconds : (i j : ℕ) (d : ℕ × ℕ) → i ≤ j → j < length pairs
+      → in_column column (slice_index_or pairs i d) ≡ in_column column (slice_index_or pairs j d)
       → (slice_index_or pairs i d).1 ≤ (slice_index_or pairs j d).1
 
 abbrev pub IsAscending : Need → Type 0
@@ -33,7 +34,7 @@ pub record Allows (name : ℕ) (need : Need) : Type 0 where
   pub among : Contains need.pairs.now pair
   pub here : in_column need.column pair ≡ name
 
--- a need stands between two names: no pair of it is below the lower one, and some pair is not above the higher one
+-- a need stands between two names: no pair of it is below the lower one, and some pair isn't above the higher
 pub record Stands (low high : ℕ) (need : Need) : Type 0 where
   pub ascending : IsAscending need
   pub floor : (p : ℕ × ℕ) → Contains need.pairs.now p → low ≤ in_column need.column p
@@ -47,12 +48,14 @@ pub record IsMoved (bound : ℕ) (old new : Need) : Type 0 where
   pub other : new.other ≡ old.other
   pub column : new.column ≡ old.column
   pub within : (p : ℕ × ℕ) → Contains new.pairs.now p → Contains old.pairs.now p
-  pub kept : (p : ℕ × ℕ) → bound ≤ in_column old.column p → Contains old.pairs.now p → Contains new.pairs.now p
+  pub kept : (p : ℕ × ℕ) → bound ≤ in_column old.column p → Contains old.pairs.now p
+      → Contains new.pairs.now p
 
 -- the same of each of two lists of needs
 pub record AreMoved (bound : ℕ) (olds news : List Need) : Type 0 where
   pub count : length news ≡ length olds
-  pub each : (k : ℕ) (d : Need) → k < length olds → IsMoved bound (slice_index_or olds k d) (slice_index_or news k d)
+  pub each : (k : ℕ) (d : Need) → k < length olds
+      → IsMoved bound (slice_index_or olds k d) (slice_index_or news k d)
 
 -- what a need for two variables asks of the second one at a name for the first
 pub record IsNarrowed (name : ℕ) (wide narrow : Need) : Type 0 where
@@ -80,7 +83,9 @@ Mentions v need = (need.at ≡ v) ⊎ (need.other ≡ Some v)
 -- in the order of the search a need's variable is met before its other one, which is another
 abbrev pub Fits : List ℕ → ℕ → (ℕ → Type 0) → Type 0
 Fits [] at IsOther = ⊥
-Fits (v ∷ rest) at IsOther = ((at ≡ v) × ((w : ℕ) → IsOther w → (w ≢ v) × Contains rest w)) ⊎ ((at ≢ v) × ((w : ℕ) → IsOther w → w ≢ v) × Fits rest at IsOther)
+Fits (v ∷ rest) at IsOther =
+    ((at ≡ v) × ((w : ℕ) → IsOther w → (w ≢ v) × Contains rest w))
+    ⊎ ((at ≢ v) × ((w : ℕ) → IsOther w → w ≢ v) × Fits rest at IsOther)
 
 abbrev pub FitsOrder : List ℕ → Need → Type 0
 FitsOrder order need = Fits order need.at (λ w. need.other ≡ Some w)

@@ -17,7 +17,8 @@ IsClosed (Joined role (Var v) u) = ⊥
 IsClosed (Joined role (Name a) (Var w)) = ⊥
 IsClosed (Joined role (Name a) (Name b)) = Unit {0}
 
--- of the pairs of a probe, those with its name behind its variable, or with one name twice where it has its variable twice
+-- of the pairs of a probe, those with its name behind its variable, or with one name twice where it has its
+-- variable twice
 abbrev pub kept_pairs : List (ℕ × ℕ) → Probe → List (ℕ × ℕ)
 kept_pairs pairs (AnyOf basics t) = []
 kept_pairs pairs (Joined role (Name a) u) = []
@@ -36,13 +37,16 @@ pub record IsNeedOf (probe : Probe) (pairs : List (ℕ × ℕ)) (need : Need) : 
 -- the lists of the pairs kept of each probe
 pub record AreKept (probes : List Probe) (lists made : List (List (ℕ × ℕ))) : Type 0 where
   pub count : length made ≡ length probes
-  pub each : (k : ℕ) (p : Probe) → k < length probes → slice_index_or made k [] ≡ kept_pairs (slice_index_or lists k []) (slice_index_or probes k p)
+  pub each : (k : ℕ) (p : Probe) → k < length probes
+      → slice_index_or made k [] ≡ kept_pairs (slice_index_or lists k []) (slice_index_or probes k p)
 
 -- the needs of probes: each probe has one or no variable
 pub record AreNeedsOf (probes : List Probe) (lists : List (List (ℕ × ℕ))) (needs : List Need) : Type 0 where
   pub to : (k : ℕ) (p : Probe) → k < length probes
-      → IsClosed (slice_index_or probes k p) ⊎ Any (IsNeedOf (slice_index_or probes k p) (slice_index_or lists k [])) needs
-  pub from : All (λ need. (k : ℕ) × (k < length probes) × ((p : Probe) → IsNeedOf (slice_index_or probes k p) (slice_index_or lists k []) need)) needs
+      → IsClosed (slice_index_or probes k p)
+      ⊎ Any (IsNeedOf (slice_index_or probes k p) (slice_index_or lists k [])) needs
+  pub from : All (λ need. (k : ℕ) × (k < length probes)
+      × ((p : Probe) → IsNeedOf (slice_index_or probes k p) (slice_index_or lists k []) need)) needs
 
 -- an order has each variable of needs
 abbrev pub OrdersAll : List ℕ → List Need → Type 0
@@ -65,7 +69,8 @@ pub record AreTurned (pairs turned : List (ℕ × ℕ)) : Type 0 where
 -- the turned lists of those needs that have to be turned
 pub record AreTurnedLists (order : List ℕ) (needs : List Need) (lists : List (List (ℕ × ℕ))) : Type 0 where
   pub count : length lists ≡ length needs
-  pub each : (k : ℕ) (d : Need) (w : ℕ) → k < length needs → IsBackward order (slice_index_or needs k d) w
+  pub each : (k : ℕ) (d : Need) (w : ℕ) → k < length needs
+      → IsBackward order (slice_index_or needs k d) w
       → AreTurned (slice_index_or needs k d).pairs.now (slice_index_or lists k [])
 
 -- a need that holds where another does, and fits an order
@@ -78,7 +83,8 @@ pub record IsFitted (order : List ℕ) (need fitted : Need) : Type 0 where
 
 pub record AreFitted (order : List ℕ) (needs fitted : List Need) : Type 0 where
   pub count : length fitted ≡ length needs
-  pub each : (k : ℕ) (d : Need) → k < length needs → IsFitted order (slice_index_or needs k d) (slice_index_or fitted k d)
+  pub each : (k : ℕ) (d : Need) → k < length needs
+      → IsFitted order (slice_index_or needs k d) (slice_index_or fitted k d)
 
 -- what a need has to be so that it can be fitted: in order, over pairs of two variables or names of one
 pub record CanBeFitted (need : Need) : Type 0 where
@@ -90,8 +96,3 @@ pub record CanBeFitted (need : Need) : Type 0 where
 pub record AddsVariables (need : Need) (old new : List ℕ) : Type 0 where
   pub there : (v : ℕ) → Mentions v need → Contains new v
   pub kept : (v : ℕ) → Contains old v → Contains new v
-
--- each probe holds over its list
-abbrev pub AllHold : (ℕ → ℕ) → List Probe → List (List (ℕ × ℕ)) → Type 0
-AllHold names probes lists =
-    (k : ℕ) (p : Probe) → k < length probes → ProbeHolds names (slice_index_or lists k []) (slice_index_or probes k p)

@@ -1,4 +1,5 @@
--- What the search finds below a choice of names: tuples that names for the variables left give to the head while the needs left hold.
+-- What the search finds below a choice of names: tuples that names for the variables left give to the head while the
+-- needs left hold.
 use Rattle.std.specs.Prelude.{◌≡◌, ◌≢◌, ℕ, ◌<◌, ◌==◌, List, length, map, if◌then◌else◌, ◌++◌, Some}
 use Rattle.std.specs.List.{All, Any, Contains}
 use Rattle.dl_terms.specs.declared.query.Term.{Term}

@@ -33,7 +33,8 @@ abbrev pub IsBefore : List (List ℕ) → ℕ → List ℕ → Type 0
 IsBefore xs i x = i < length xs → tuple_cmp x (slice_index_or xs i []) ≡ Less
 
 -- the next tuple of two lists, from an index of each on: `left` of the first, or `right` of the second or both
-abbrev pub IsNext : Ordering → List (List ℕ) → ℕ → List (List ℕ) → ℕ → List ℕ → List ℕ → Type 0
+abbrev pub IsNext : Ordering → List (List ℕ) → ℕ → List (List ℕ) → ℕ → List ℕ → List ℕ
+    → Type 0
 IsNext Less xs i ys j left right = StandsAt xs i left × IsBefore ys j left
 IsNext Equal xs i ys j left right = StandsAt xs i right × StandsAt ys j right
 IsNext Greater xs i ys j left right = StandsAt ys j right × IsBefore xs i right

@@ -4,8 +4,8 @@ ghost use Rattle.std.specs.List.{All};
 ghost use Rattle.dl_terms.specs.declared.query.Probe.{Probe};
 ghost use Rattle.dl_join.specs.declared.need.Column.TheVariants.{First};
 ghost use Rattle.dl_join.specs.Needs.{AreAscending};
-ghost use Rattle.dl_join.specs.Probing.{AreKept, AreNeedsOf, AllHold, IsClosed};
-ghost use Rattle.dl_join.specs.Disjuncts.{IsTuple, IsSafe, AreSorted, ProbeHolds};
+ghost use Rattle.dl_join.specs.Probing.{AreKept, AreNeedsOf, IsClosed};
+ghost use Rattle.dl_join.specs.Disjuncts.{IsTuple, IsSafe, AreSorted, ProbeHolds, AllHold};
 ghost use Rattle.dl_join.specs.Tuples.{AreExactly, AreMoreThan};
 
 use crate::JoinFault;

@@ -36,7 +36,8 @@ fn next(
     requires two { j ≤ length two.now.tuples }
     requires some { i ≡ length one.now.tuples → j < length two.now.tuples }
     ensures next { IfOk result (λ order. IsNext order one.now.tuples i two.now.tuples j left.new.items right.new.items) }
-    ensures width { IfOk result (λ order. FitsWidth order one.now.width two.now.width left.new.items right.new.items) }
+    ensures width { IfOk result (λ order.
+        FitsWidth order one.now.width two.now.width left.new.items right.new.items) }
 {
     if i == one.len() {
         copy_tuple(two, j, right)?;

@@ -54,7 +54,8 @@ fn class_fails(at: Term, pairs: &[Pair]) -> bool
     requires { AreAscending First pairs.now }
     ensures fails { IsTrue result → (names : ℕ → ℕ) (basics : Basics Basic)
         → ProbeHolds names pairs.now (Probe.AnyOf basics at) → ⊥ }
-    ensures holds { result ≡ false → (names : ℕ → ℕ) (basics : Basics Basic) → IsClosed (Probe.AnyOf basics at)
+    ensures holds { result ≡ false → (names : ℕ → ℕ) (basics : Basics Basic)
+        → IsClosed (Probe.AnyOf basics at)
         → ProbeHolds names pairs.now (Probe.AnyOf basics at) }
 {
     match at {
@@ -138,7 +139,8 @@ pub fn need_of<'a>(probe: &Probe, pairs: &'a [Pair], kept: &'a [Pair]) -> Option
 
 fn class_need<'a>(at: Term, pairs: &'a [Pair]) -> Option<Need<'a>>
     requires { AreAscending First pairs.now }
-    ensures some { IfSome result (λ need. (basics : Basics Basic) → IsNeedOf (Probe.AnyOf basics at) pairs.now need) }
+    ensures some { IfSome result (λ need.
+        (basics : Basics Basic) → IsNeedOf (Probe.AnyOf basics at) pairs.now need) }
     ensures none { IfNone result ((basics : Basics Basic) → IsClosed (Probe.AnyOf basics at)) }
 {
     match at {

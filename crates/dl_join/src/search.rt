@@ -49,7 +49,8 @@ impl<'a> Room<'a> {
         ensures reached { IfSome result (λ name. from ≤ name) }
         ensures moved { IfSome result (λ name. AreMoved name self.old.active.items self.new.active.items) }
         ensures stand { IfSome result (λ name. All (Stands name name) self.new.active.items) }
-        ensures least { IfSome result (λ name. (x : ℕ) → from ≤ x → All (Allows x) self.old.active.items → name ≤ x) }
+        ensures least { IfSome result (λ name.
+            (x : ℕ) → from ≤ x → All (Allows x) self.old.active.items → name ≤ x) }
         ensures none { IfNone result ((x : ℕ) → from ≤ x → All (Allows x) self.old.active.items → ⊥) }
     {
         meet(self.active.as_mut_slice(), from)

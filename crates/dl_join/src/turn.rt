@@ -12,7 +12,8 @@ use std::alloc::{AllocError, Global};
 // The other variable of a need, where it is met first.
 fn backward(order: &[u8], need: &Need<'_>) -> Option<u8>
     ensures some { IfSome result (λ w. IsBackward order.now need.now w) }
-    ensures none { IfNone result ((w : ℕ) → need.now.other ≡ Some w → is_first order.now need.now.at w ≡ true) }
+    ensures none { IfNone result ((w : ℕ) → need.now.other ≡ Some w
+        → is_first order.now need.now.at w ≡ true) }
 {
     let other = need.other?;
     if is_before(order, need.at, other) {
@@ -51,7 +52,8 @@ pub fn turned_lists(
 }
 
 fn turned_list(alloc: Global, order: &[u8], need: &Need<'_>) -> Result<List<Pair>, AllocError>
-    ensures { IfOk result (λ list. (w : ℕ) → IsBackward order.now need.now w → AreTurned need.now.pairs.now list) }
+    ensures { IfOk result (λ list. (w : ℕ) → IsBackward order.now need.now w
+        → AreTurned need.now.pairs.now list) }
 {
     match backward(order, need) {
         Some(_) => turned(alloc, need.pairs),
