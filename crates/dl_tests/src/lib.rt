@@ -9,6 +9,8 @@ mod intervals;
 #[cfg(test)]
 mod io;
 #[cfg(test)]
+mod join;
+#[cfg(test)]
 mod lex;
 #[cfg(test)]
 mod names;
