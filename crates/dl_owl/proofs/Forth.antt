@@ -1,5 +1,5 @@
 -- Where a token goes on to what is meant, it is meant with what stands behind it: from reading to the plain grammar.
-use Rattle.std.proofs.Common.{◌≡◌, ℕ, suc, zero, ◌≤◌, Bool, true, false, ◌⊎◌, inl, inr, Option, Some, None, List, [], ◌∷◌, ◌++◌, if◌then◌else◌, refl, sym, ap, ◌∙◌, subst, arith, append_assoc, append-nil}
+use Rattle.std.proofs.Common.{◌≡◌, ℕ, suc, ◌≤◌, Bool, true, false, ◌⊎◌, inl, inr, Option, Some, None, List, [], ◌∷◌, ◌++◌, if◌then◌else◌, refl, sym, ap, ◌∙◌, subst, arith}
 use Rattle.std.specs.Str.{bytes_eq}
 use Rattle.dl_lex.specs.declared.keyword.Keyword.{Keyword}
 use Rattle.dl_lex.specs.declared.keyword.Keyword.TheVariants.{Annotation, DifferentIndividuals, Class, ObjectProperty, ObjectInverseOf, ObjectSomeValuesFrom, ObjectIntersectionOf, ObjectComplementOf, ObjectPropertyChain}
@@ -24,7 +24,7 @@ use Rattle.dl_owl.specs.Axioms as axioms
 use Rattle.dl_owl.specs.Axioms.{is_other_entity, is_annotation_axiom, EntityThen, DifferentThen, OperandsThen, AxiomThen}
 use Rattle.dl_owl.specs.declared.fault.Construct.TheVariants.{Thing}
 use Rattle.dl_owl.specs.Causes.{Cause, syntax, not_ql, left_out, reserved}
-use Rattle.dl_owl.specs.Expected.{Expected, open_then, close_then, annotations_then, iri_then, subject_then, value_then, value_end, property_then, role_then, first_role, second_role, sub_then, sup_then, thing_then, filler_then, roles_close, subs_close, sups_close, individual_then, unnamed_then, different_close, declared_class, entity_then, Move, goes, takes_name, refuses}
+use Rattle.dl_owl.specs.Expected.{Expected, open_then, close_then, annotations_then, iri_then, subject_then, value_then, value_end, property_then, role_then, first_role, second_role, sub_then, sup_then, thing_then, filler_then, individual_then, unnamed_then, different_close, declared_class, entity_then, Move, goes, takes_name, refuses}
 use Rattle.dl_owl.specs.Refused.{keyword_left_out}
 use Rattle.dl_owl.specs.Steps.{at_iri, named_next, name_next, class_or_thing, refused_class, refused_individual, role_next, first_role_next, second_role_next, sub_next, sup_next, thing_next, filler_next, annotation_then, subject_next, value_next, value_end_next, individual_next, unnamed_next, different_next, entity_next}
 use Rattle.dl_owl.proofs.IriLemmas.{IriDoes, NameDoes, at_iri-forth, if-forth, if-other, named-forth, class-forth}
@@ -262,106 +262,6 @@ module _ (document : Document) (final : List Text) (p : Prefixes) (names : List 
         is = expressions.SupThen.class name.1.1.0;
         so = name.1.1.1;
       }
-
-  -- ---- lists
-
-  -- what is meant behind more of them
-  behind : {V : Type 0} (k : List V → Expected) (before more others : List V) (after : List Text) (rest : List Symbol)
-      → Means document final p (k (before ++ more ++ others)) after rest
-      → Means document final p (k (before ++ (more ++ others))) after rest
-  behind k before more others after rest h =
-      subst (λ l. Means document final p (k l) after rest) (append_assoc before more others) h
-
-  roles_more : (n : ℕ) (before : List Role) (k : List Role → Expected) (s : Symbol) (more : ℕ)
-      → M (role_then (λ r. roles_close n (before ++ r ∷ []) k)) names (s ∷ ss) → more ≤ suc n → M (roles_close more before k) names (s ∷ ss)
-  roles_more n before k s more h fits =
-      let others = h.so in
-      record {
-        «value» = h.value ∷ others.value;
-        rest = others.rest;
-        after = others.after;
-        is = (expressions.RolesThen.more h.is others.is.0, omega (arith, fits, others.is.1));
-        so = behind k before (h.value ∷ []) others.value others.after others.rest others.so;
-      }
-
-  pub roles-forth : (n : ℕ) (before : List Role) (k : List Role → Expected) (s : Symbol)
-      → C (role_next p (λ r. roles_close n (before ++ r ∷ []) k) s) → (more : ℕ) → more ≤ suc n → M (roles_close more before k) names (s ∷ ss)
-  roles-forth n before k s h more fits = roles_more n before k s more (role-forth (λ r. roles_close n (before ++ r ∷ []) k) s h) fits
-
-  subs_more : (n : ℕ) (before : List Basic) (k : List Basic → Expected) (s : Symbol) (more : ℕ)
-      → M (sub_then (λ r. subs_close n (before ++ r ∷ []) k)) names (s ∷ ss) → more ≤ suc n → M (subs_close more before k) names (s ∷ ss)
-  subs_more n before k s more h fits =
-      let others = h.so in
-      record {
-        «value» = h.value ∷ others.value;
-        rest = others.rest;
-        after = others.after;
-        is = (expressions.SubsThen.more h.is others.is.0, omega (arith, fits, others.is.1));
-        so = behind k before (h.value ∷ []) others.value others.after others.rest others.so;
-      }
-
-  pub subs-forth : (n : ℕ) (before : List Basic) (k : List Basic → Expected) (s : Symbol)
-      → C (sub_next p (λ r. subs_close n (before ++ r ∷ []) k) s) → (more : ℕ) → more ≤ suc n → M (subs_close more before k) names (s ∷ ss)
-  subs-forth n before k s h more fits = subs_more n before k s more (sub-forth (λ r. subs_close n (before ++ r ∷ []) k) s h) fits
-
-  pub sups-forth : (n : ℕ) (before : List Part) (k : List Part → Expected) (s : Symbol)
-      → C (sup_next p (λ ps. sups_close n (before ++ ps) k) s) → M (sups_close (suc n) before k) names (s ∷ ss)
-  sups-forth n before k s h =
-      let first = sup-forth (λ ps. sups_close n (before ++ ps) k) s h in
-      let others = first.so in
-      record {
-        «value» = first.value ++ others.value;
-        rest = others.rest;
-        after = others.after;
-        is = record {
-          «value» = first.value;
-          rest = first.rest;
-          after = first.after;
-          is = first.is;
-          so = (others.value, refl, others.is);
-        };
-        so = behind k before first.value others.value others.after others.rest others.so;
-      }
-
-  pub sups_any-forth : (before : List Part) (k : List Part → Expected) (s : Symbol)
-      → C (sup_next p (λ ps. sups_close zero (before ++ ps) k) s) → M (sups_close zero before k) names (s ∷ ss)
-  sups_any-forth before k s h =
-      let first = sup-forth (λ ps. sups_close zero (before ++ ps) k) s h in
-      let others = first.so in
-      record {
-        «value» = first.value ++ others.value;
-        rest = others.rest;
-        after = others.after;
-        is = expressions.SupsThen.more first.is others.is;
-        so = behind k before first.value others.value others.after others.rest others.so;
-      }
-
-  pub roles_end-forth : (before : List Role) (k : List Role → Expected) → M (k before) names ss → M (roles_close zero before k) names (closing ∷ ss)
-  roles_end-forth before k h = record {
-    «value» = [];
-    rest = ss;
-    after = names;
-    is = (expressions.RolesThen.none, omega arith);
-    so = subst (λ l. M (k l) names ss) (sym (append-nil before)) h;
-  }
-
-  pub subs_end-forth : (before : List Basic) (k : List Basic → Expected) → M (k before) names ss → M (subs_close zero before k) names (closing ∷ ss)
-  subs_end-forth before k h = record {
-    «value» = [];
-    rest = ss;
-    after = names;
-    is = (expressions.SubsThen.none, omega arith);
-    so = subst (λ l. M (k l) names ss) (sym (append-nil before)) h;
-  }
-
-  pub sups_end-forth : (before : List Part) (k : List Part → Expected) → M (k before) names ss → M (sups_close zero before k) names (closing ∷ ss)
-  sups_end-forth before k h = record {
-    «value» = [];
-    rest = ss;
-    after = names;
-    is = expressions.SupsThen.none;
-    so = subst (λ l. M (k l) names ss) (sym (append-nil before)) h;
-  }
 
   -- ---- annotations and individuals
 

@@ -2,6 +2,7 @@ pub mod Turns
 pub mod Meaning
 pub mod IriLemmas
 pub mod Forth
+pub mod ListForth
 pub mod AxiomForth
 pub mod TextForth
 pub mod Back

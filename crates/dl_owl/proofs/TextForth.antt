@@ -18,7 +18,8 @@ use Rattle.dl_owl.specs.Causes.{syntax, prefix_unknown}
 use Rattle.dl_owl.specs.Expected.{Expected, prologue, prefix_name, prefix_equals, prefix_iri, title, annotations_first, items, lone_axiom, finish, done, open_then, close_then, annotations_then, iri_then, subject_then, value_then, value_end, property_then, role_then, first_role, second_role, sub_then, sup_then, thing_then, filler_then, roles_close, subs_close, sups_close, individual_then, unnamed_then, different_close, class_then, declared_class, entity_then, Move, goes, refuses, declares}
 use Rattle.dl_owl.specs.Steps.{at_iri, axiom_next, items_next, annotations_first_next, prologue_next, prefix_name_next, prefix_iri_next, close_or, refused_class, role_next, sub_next, sup_next, different_next, move_of}
 use Rattle.dl_owl.proofs.Meaning.{SeesThis, no_iri, an_iri, AxiomsMean, FirstMean, TitleMeans, PrologueMeans, LoneMeans, Means, Comes}
-use Rattle.dl_owl.proofs.Forth.{one_annotation, annotation-forth, role-forth, first_role-forth, second_role-forth, sub-forth, thing-forth, filler-forth, sup-forth, roles-forth, subs-forth, sups-forth, sups_any-forth, roles_end-forth, subs_end-forth, sups_end-forth, iri-forth, subject-forth, value-forth, value_end-forth, property-forth, individual-forth, unnamed-forth, class_then-forth, different-forth, entity-forth}
+use Rattle.dl_owl.proofs.Forth.{one_annotation, annotation-forth, role-forth, first_role-forth, second_role-forth, sub-forth, thing-forth, filler-forth, sup-forth, iri-forth, subject-forth, value-forth, value_end-forth, property-forth, individual-forth, unnamed-forth, class_then-forth, different-forth, entity-forth}
+use Rattle.dl_owl.proofs.ListForth.{roles-forth, subs-forth, sups-forth, sups_any-forth, roles_end-forth, subs_end-forth, sups_end-forth}
 use Rattle.dl_owl.proofs.AxiomForth.{axiom-forth}
 
 module _ (document : Document) (final : List Text) (p : Prefixes) (names : List Text) (ss : List Symbol) where

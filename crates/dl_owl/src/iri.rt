@@ -30,7 +30,7 @@ pub(crate) fn find_iri(
 ) -> Result<Found, AllocError>
     ensures { IfOk result (λ found. (k : Text → Move) (other : Move)
         → at_iri prefixes.now (placed at.now.bytes at.now.token).symbol k other
-            ≡ found_move found (string_bytes text.new) k other) }
+        ≡ found_move found (string_bytes text.new) k other) }
 {
     match at.kind() {
         TokenKind::Iri => {
