@@ -1,5 +1,5 @@
 -- Reading gives a value exactly where the plain grammar has it, at most so many parentheses are open and the names fit.
-use Rattle.std.proofs.Common.{◌≡◌, ℕ, ◌+◌, ◌≤◌, suc, zero, Bool, true, false, cond, not, ◌&&◌, nat_le, inl, inr, if◌then◌else◌, List, [], ◌∷◌, length, refl, ap, ◌∙◌, subst, arith}
+use Rattle.std.proofs.Common.{◌≡◌, ℕ, ◌+◌, ◌≤◌, suc, zero, Bool, true, false, cond, not, ◌&&◌, nat_le, inl, inr, if◌then◌else◌, List, [], ◌∷◌, length, refl, ap, ◌∙◌, subst, arith, ◌++◌}
 use Rattle.std.proofs.lemmas.Bool.{leb-false, lt-leb}
 use Rattle.std.proofs.lemmas.List.{length-append}
 use Rattle.dl_names.specs.NameList.{Text, has_name, max_names, names_after, place_of}
@@ -216,8 +216,8 @@ module _ (document : Document) (final : List Text) where
             (room met.names text full fits) g in
             (inner.0, shallow is inner.1, inner.2)
     move-sound (declares name iri e) h =
-        let go = not_deep (λ later. outcome e (record later { prefixes = (name, iri) ∷ met.prefixes }) tokens) h in
-        let inner = hyp e (record (deeper met t) { prefixes = (name, iri) ∷ met.prefixes }) fits go.1 in
+        let go = not_deep (λ later. outcome e (record later { prefixes = met.prefixes ++ (name, iri) ∷ [] }) tokens) h in
+        let inner = hyp e (record (deeper met t) { prefixes = met.prefixes ++ (name, iri) ∷ [] }) fits go.1 in
         (inner.0, shallow go.0 inner.1, inner.2)
     move-sound (refuses cause) h = absurd (cc)
 
@@ -242,7 +242,7 @@ module _ (document : Document) (final : List Text) where
       by (goes e) so hyp = hyp e p names so
       by (takes_name text k) so hyp =
           omega (arith, longer names text, hyp (k (place_of (names_after names text) text)) p (names_after names text) so)
-      by (declares name iri e) so hyp = hyp e ((name, iri) ∷ p) names so
+      by (declares name iri e) so hyp = hyp e (p ++ (name, iri) ∷ []) names so
       by (refuses cause) so hyp = absurd so
 
   module _ (tokens : List Placed)
@@ -273,8 +273,8 @@ module _ (document : Document) (final : List Text) where
         (not_full met.names text (length final) grown fits)
         ∙ hyp (k (place_of (names_after met.names text) text)) (record (deeper met t) { names = names_after met.names text }) (so, parts.1, fits)
     move-complete (declares name iri e) so =
-        at_depth-is (λ later. outcome e (record later { prefixes = (name, iri) ∷ met.prefixes }) tokens)
-        ∙ hyp e (record (deeper met t) { prefixes = (name, iri) ∷ met.prefixes }) (so, parts.1, fits)
+        at_depth-is (λ later. outcome e (record later { prefixes = met.prefixes ++ (name, iri) ∷ [] }) tokens)
+        ∙ hyp e (record (deeper met t) { prefixes = met.prefixes ++ (name, iri) ∷ [] }) (so, parts.1, fits)
     move-complete (refuses cause) so = absurd so
 
   pub complete : (tokens : List Placed) (e : Expected) (met : Met) → IsRight e met (symbols_of tokens)

@@ -74,7 +74,7 @@ module _ (document : Document) (final : List Text) where
   abbrev pub PrefixMeans : Prefixes → Text → List Text → List Symbol → Type 0
   PrefixMeans p name names ss =
       Sees (λ s rest. (iri : Text) × ((s ≡ full_iri iri)
-      × (((declared_iri p name ≡ None) × SeesThis closing (λ more. PrologueMeans ((name, iri) ∷ p) names more) rest)
+      × (((declared_iri p name ≡ None) × SeesThis closing (λ more. PrologueMeans (p ++ (name, iri) ∷ []) names more) rest)
       ⊎ ((declared_iri p name ≡ Some iri) × SeesThis closing (λ more. PrologueMeans p names more) rest)))) ss
 
   pub record LoneMeans (p : Prefixes) (names : List Text) (ss : List Symbol) : Type 0 where
@@ -155,5 +155,5 @@ module _ (document : Document) (final : List Text) where
   Comes p (goes e) names ss = Means p e names ss
   Comes p (takes_name text k) names ss =
       Means p (k (place_of (names_after names text) text)) (names_after names text) ss
-  Comes p (declares name iri e) names ss = Means ((name, iri) ∷ p) e names ss
+  Comes p (declares name iri e) names ss = Means (p ++ (name, iri) ∷ []) e names ss
   Comes p (refuses cause) names ss = ⊥

@@ -1,5 +1,5 @@
 -- The same for whole texts, and for all that may be expected.
-use Rattle.std.proofs.Common.{◌≡◌, ℕ, suc, zero, ◌⊎◌, inl, inr, Some, None, List, [], ◌∷◌, if◌then◌else◌, refl, sym, ap, subst}
+use Rattle.std.proofs.Common.{◌≡◌, ℕ, suc, zero, ◌⊎◌, inl, inr, Some, None, List, [], ◌∷◌, if◌then◌else◌, refl, sym, ap, subst, ◌++◌}
 use Rattle.std.specs.Str.{bytes_eq}
 use Rattle.dl_lex.specs.declared.keyword.Keyword.{Keyword}
 use Rattle.dl_lex.specs.declared.keyword.Keyword.TheVariants.{Ontology, Import, Annotation, ClassAssertion}
@@ -167,7 +167,7 @@ module _ (document : Document) (final : List Text) (p : Prefixes) (names : List 
       (subst (λ l. C ss (elim l [ [] ↦ goes (prefix_equals (prefix_of short)) | c ∷ cs ↦ refuses syntax ])) (sym local) so)
 
   prefix_iri-back : (name : Text) (s : Symbol) (ss : List Symbol) (iri : Text) → s ≡ full_iri iri
-      → ((declared_iri p name ≡ None) × SeesThis closing (λ more. PrologueMeans document final ((name, iri) ∷ p) names more) ss)
+      → ((declared_iri p name ≡ None) × SeesThis closing (λ more. PrologueMeans document final (p ++ (name, iri) ∷ []) names more) ss)
       ⊎ ((declared_iri p name ≡ Some iri) × SeesThis closing (λ more. PrologueMeans document final p names more) ss)
       → C ss (prefix_iri_next p name s)
   prefix_iri-back name s ss iri is (inl new) =

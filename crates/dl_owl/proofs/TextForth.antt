@@ -78,7 +78,7 @@ module _ (document : Document) (final : List Text) (p : Prefixes) (names : List 
     where
       by : (iri : Text) (rest : List Symbol) → short_iri h.so.0 ∷ equals ∷ full_iri iri ∷ rest ≡ ss
           → (((declared_iri p (prefix_of h.so.0) ≡ None)
-          × SeesThis closing (λ more. PrologueMeans document final ((prefix_of h.so.0, iri) ∷ p) names more) rest)
+          × SeesThis closing (λ more. PrologueMeans document final (p ++ (prefix_of h.so.0, iri) ∷ []) names more) rest)
           ⊎ ((declared_iri p (prefix_of h.so.0) ≡ Some iri) × SeesThis closing (λ more. PrologueMeans document final p names more) rest))
           → PrologueMeans document final p names (keyword Prefix ∷ opening ∷ ss)
       by iri rest is (inl new) =

@@ -67,8 +67,8 @@ turn met t (takes_name text k) =
           ),
         )
 turn met t (declares name iri e) =
-    at_depth-turn met t (declares name iri e) (λ f later. f e (record later { prefixes = (name, iri) ∷ met.prefixes })) (λ f. refl)
-    (λ _. inr (e, (record (deeper met t) { prefixes = (name, iri) ∷ met.prefixes }, λ f. refl)))
+    at_depth-turn met t (declares name iri e) (λ f later. f e (record later { prefixes = met.prefixes ++ (name, iri) ∷ [] })) (λ f. refl)
+    (λ _. inr (e, (record (deeper met t) { prefixes = met.prefixes ++ (name, iri) ∷ [] }, λ f. refl)))
 turn met t (refuses cause) = stops (fails cause t.at) refl (λ f. refl)
 
 pub fails_at : (tokens : List Placed) (e : Expected) (met : Met) (cause : Cause) (at : ℕ)

@@ -1,5 +1,5 @@
 -- Ontology documents (OWL 2 Functional-Style Syntax, 3.7).
-use Rattle.std.specs.Prelude.{◌≡◌, Some, None, List, [], ◌∷◌}
+use Rattle.std.specs.Prelude.{◌≡◌, Some, None, List, [], ◌∷◌, ◌++◌}
 use Rattle.dl_lex.specs.declared.keyword.Keyword.TheVariants.{Prefix, Ontology}
 use Rattle.dl_names.specs.NameList.{Text}
 use Rattle.dl_owl.specs.declared.document.Document.{Document}
@@ -16,7 +16,7 @@ pub data PrefixesThen : Prefixes → List Symbol → Prefixes → List Symbol �
   none : {p : Prefixes} {rest : List Symbol} → PrefixesThen p rest p rest
   new : {p q : Prefixes} {name iri : Text} {more rest : List Symbol}
       → local_of name ≡ [] → declared_iri p (prefix_of name) ≡ None
-      → PrefixesThen ((prefix_of name, iri) ∷ p) more q rest
+      → PrefixesThen (p ++ (prefix_of name, iri) ∷ []) more q rest
       → PrefixesThen p (keyword Prefix ∷ opening ∷ short_iri name ∷ equals ∷ full_iri iri ∷ closing ∷ more) q rest
   again : {p q : Prefixes} {name iri : Text} {more rest : List Symbol}
       → local_of name ≡ [] → declared_iri p (prefix_of name) ≡ Some iri → PrefixesThen p more q rest

@@ -53,7 +53,7 @@ outcome_of met t onward (takes_name text k) =
     if is_full met.names text then fails too_many_names t.at
     else (let after = names_after met.names text in onward (k (place_of after text)) (record later { names = after })))
 outcome_of met t onward (declares name iri e) =
-    at_depth met t (λ later. onward e (record later { prefixes = (name, iri) ∷ met.prefixes }))
+    at_depth met t (λ later. onward e (record later { prefixes = met.prefixes ++ (name, iri) ∷ [] }))
 outcome_of met t onward (refuses cause) = fails cause t.at
 
 -- where no token is left
