@@ -17,19 +17,33 @@ type Row = (
 );
 
 const X: Term = Term::Var(0);
+
 const Y: Term = Term::Var(1);
+
 const Z: Term = Term::Var(2);
+
 const W: Term = Term::Var(3);
+
 const FOUR: Term = Term::Name(4);
 
 const CHAIN: &[Pair] = &[(1, 2), (1, 3), (2, 3), (3, 4)];
+
 const LOOPS: &[Pair] = &[(1, 1), (1, 2), (2, 1), (3, 3)];
+
 const CLASS: &[Pair] = &[(2, 2), (3, 3), (7, 7)];
 
 const ROWS: [Row; 16] = [
     // One role, its head as it stands, turned, and one of its ends.
-    (&[X, Y], &[((X, Some(Y)), CHAIN)], &[&[1, 2], &[1, 3], &[2, 3], &[3, 4]]),
-    (&[Y, X], &[((X, Some(Y)), CHAIN)], &[&[2, 1], &[3, 1], &[3, 2], &[4, 3]]),
+    (
+        &[X, Y],
+        &[((X, Some(Y)), CHAIN)],
+        &[&[1, 2], &[1, 3], &[2, 3], &[3, 4]],
+    ),
+    (
+        &[Y, X],
+        &[((X, Some(Y)), CHAIN)],
+        &[&[2, 1], &[3, 1], &[3, 2], &[4, 3]],
+    ),
     (&[Y], &[((X, Some(Y)), CHAIN)], &[&[2], &[3], &[4]]),
     // A path of two, whole, its ends, and its middle.
     (
@@ -42,16 +56,28 @@ const ROWS: [Row; 16] = [
         &[((X, Some(Y)), CHAIN), ((Y, Some(Z)), CHAIN)],
         &[&[1, 3], &[1, 4], &[2, 4]],
     ),
-    (&[Y], &[((X, Some(Y)), CHAIN), ((Y, Some(Z)), CHAIN)], &[&[2], &[3]]),
+    (
+        &[Y],
+        &[((X, Some(Y)), CHAIN), ((Y, Some(Z)), CHAIN)],
+        &[&[2], &[3]],
+    ),
     // A triangle, and none where its last side is turned.
     (
         &[X, Y, Z],
-        &[((X, Some(Y)), CHAIN), ((Y, Some(Z)), CHAIN), ((X, Some(Z)), CHAIN)],
+        &[
+            ((X, Some(Y)), CHAIN),
+            ((Y, Some(Z)), CHAIN),
+            ((X, Some(Z)), CHAIN),
+        ],
         &[&[1, 2, 3]],
     ),
     (
         &[X, Y, Z],
-        &[((X, Some(Y)), CHAIN), ((Y, Some(Z)), CHAIN), ((Z, Some(X)), CHAIN)],
+        &[
+            ((X, Some(Y)), CHAIN),
+            ((Y, Some(Z)), CHAIN),
+            ((Z, Some(X)), CHAIN),
+        ],
         &[],
     ),
     // A variable twice in one probe, and two probes over one pair.
@@ -62,11 +88,26 @@ const ROWS: [Row; 16] = [
         &[&[1, 1], &[1, 2], &[2, 1], &[3, 3]],
     ),
     // A class, and names behind and in front of a role.
-    (&[X, Y], &[((X, Some(Y)), CHAIN), ((Y, None), CLASS)], &[&[1, 2], &[1, 3], &[2, 3]]),
+    (
+        &[X, Y],
+        &[((X, Some(Y)), CHAIN), ((Y, None), CLASS)],
+        &[&[1, 2], &[1, 3], &[2, 3]],
+    ),
     (&[X], &[((X, Some(FOUR)), CHAIN)], &[&[3]]),
-    (&[FOUR, X, FOUR], &[((Term::Name(1), Some(X)), CHAIN)], &[&[4, 2, 4], &[4, 3, 4]]),
+    (
+        &[FOUR, X, FOUR],
+        &[((Term::Name(1), Some(X)), CHAIN)],
+        &[&[4, 2, 4], &[4, 3, 4]],
+    ),
     // Probes without variables, of which one fails, and an empty head.
-    (&[], &[((Term::Name(3), Some(FOUR)), CHAIN), ((Term::Name(7), None), CLASS)], &[&[]]),
+    (
+        &[],
+        &[
+            ((Term::Name(3), Some(FOUR)), CHAIN),
+            ((Term::Name(7), None), CLASS),
+        ],
+        &[&[]],
+    ),
     (&[X], &[((X, None), CLASS), ((FOUR, None), CLASS)], &[]),
     // Two parts that share nothing.
     (
