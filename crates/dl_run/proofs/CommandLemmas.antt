@@ -1,32 +1,39 @@
 -- What is printed is decided by the files, and by the words.
-use Rattle.std.proofs.Common.{◌≡◌, ℕ, ◌<◌, ◌≤◌, List, [], ◌∷◌, length, Option, None, Some, Result, Ok, Err, IfSome, subst, refl, arith}
+use Rattle.std.proofs.Common.{◌≡◌, ℕ, ◌<◌, ◌≤◌, true, List, [], ◌∷◌, ◌++◌, length, Option, None, Some, Result, Ok, Err, IfSome, subst, ap, ◌∙◌, refl, arith}
 use Rattle.std.specs.List.{Contains}
 use Rattle.dl_io.specs.Count.{HasRisen}
 use Rattle.dl_io.specs.Files.{max_bytes}
-use Rattle.dl_io.specs.declared.whole.FileFault.{FileFault}
-use Rattle.dl_io.specs.declared.whole.FileFault.TheVariants as files
-use Rattle.dl_terms.specs.Reply.{IsReply, found, too_many}
+use Rattle.dl_terms.specs.Reply.{Reply, IsReply, found, too_many}
 use Rattle.dl_terms.specs.declared.query.Query.{Query}
 use Rattle.dl_terms.proofs.AnswerLemmas.{IsReply-unique}
 use Rattle.dl_run.specs.Answered.{status_of, text_of, RepliesTo}
-use Rattle.dl_run.specs.Defined.{IsNoInput, AnswerPrints, AnswerOf, Prints}
-use Rattle.dl_run.specs.Defined.IsRefused.{not_built, over_limit}
+use Rattle.dl_run.specs.Asked.{Gives}
+use Rattle.dl_run.specs.Defined.{IsRefused, AnswerPrints, AnswerOf, Prints}
+use Rattle.dl_run.specs.Defined.IsRefused.{wrong, over_limit}
 use Rattle.dl_run.specs.Defined.AnswerPrints.{refused, answers}
 use Rattle.dl_run.specs.Defined.Prints.{usage, by_answer}
 use Rattle.dl_run.specs.Ending.{Says}
 use Rattle.dl_run.specs.Ending.Says.{done, refused as stopped, read_fault, no_memory}
-use Rattle.dl_run.specs.Input.{Load, AreInput}
-use Rattle.dl_run.specs.Stops.{stop_of_file, stop_of_fault}
+use Rattle.dl_run.specs.Files.{IsFileStop}
+use Rattle.dl_run.specs.Input.{Load, IsFirstTooLong, AreInput}
+use Rattle.dl_run.specs.Output.{facts_line, answers_text}
+use Rattle.dl_run.specs.Refusals.{refusal_text}
+use Rattle.dl_run.specs.Served.{is_served}
 use Rattle.dl_run.specs.Words.{Form, answer, HasForm, AskFor}
 use Rattle.dl_run.specs.Words.HasForm.{is_answer}
+use Rattle.dl_run.specs.Wrong.{IsFirstWrong}
+use Rattle.dl_run.specs.Wrong.IsFirstWrong.{too_long}
 use Rattle.dl_run.specs.declared.answer.Answers.{Answers}
-use Rattle.dl_run.specs.declared.fault.Fault.{Fault}
-use Rattle.dl_run.specs.declared.fault.Fault.TheVariants as faults
 use Rattle.dl_run.specs.declared.status.Status.{Status}
+use Rattle.dl_run.specs.declared.stop.InputFile.{InputFile}
+use Rattle.dl_run.specs.declared.stop.InputFile.TheVariants.{Ontology, Data, Query as QueryFile}
+use Rattle.dl_run.specs.Input.IsFirstTooLong.{ontology_is, data_is, query_is}
+use Rattle.dl_run.specs.declared.stop.Refusal.{Refusal}
 use Rattle.dl_run.specs.declared.stop.Stop.{Stop}
 use Rattle.dl_run.specs.declared.stop.Stop.TheVariants as stops
 use Rattle.dl_run.proofs.EndingLemmas.{if_some}
 use Rattle.dl_run.proofs.InputLemmas.{AreInput-unique}
+use Rattle.dl_run.proofs.WrongLemmas.{wrong_or_served, one_wrong}
 
 -- what holds of the bytes that were read holds of the files, where the library tells them
 pub at_files : (told : Option (List ℕ → List ℕ)) (o d q : List ℕ) {x y z : List ℕ} (P : List ℕ → List ℕ → List ℕ → Type 0)
@@ -36,26 +43,50 @@ at_files None o d q P ex ey ez h = tt
 at_files (Some file_of) o d q {x} {y} {z} P ex ey ez h =
     subst (λ w. P (file_of o) (file_of d) w) ez (subst (λ v. P (file_of o) v z) ey (subst (λ u. P u y z) ex h))
 
--- the answers to files exclude that they are too many
-replies_exclude : {x y z : List ℕ} {load other : Load} {asked also : Query} {limit : ℕ} {tuples : List (List ℕ)}
-    → AreInput x y z load asked → AreInput x y z other also → IsReply load.axioms load.facts load.nothing asked limit too_many
-    → IsReply other.axioms other.facts other.nothing also limit (found tuples) → ⊥
-replies_exclude {load = load} {other = other} {asked = asked} {also = also} {limit = limit} {tuples = tuples} input again one two =
-    let same = AreInput-unique again input in
-    let here : IsReply load.axioms load.facts load.nothing asked limit (found tuples) =
-    subst (λ (q : Query). IsReply load.axioms load.facts load.nothing q limit (found tuples)) same.1
-    (subst (λ (l : Load). IsReply l.axioms l.facts l.nothing also limit (found tuples)) same.0 two) in
-    let equal : too_many ≡ found tuples = IsReply-unique load.axioms load.facts load.nothing asked limit too_many (found tuples) one here in cc
+-- a load that is served has one reply
+module _ {x y z : List ℕ} {load other : Load} {asked also : Query} {limit : ℕ} (one : AreInput x y z load asked) (two : AreInput x y z other also) where
+  same_reply : (a b : Reply) → IsReply load.axioms load.facts load.nothing asked limit a → IsReply other.axioms other.facts other.nothing also limit b → a ≡ b
+  same_reply a b first second =
+      let same = AreInput-unique two one in
+      IsReply-unique load.axioms load.facts load.nothing asked limit a b first
+      (subst (λ (q : Query). IsReply load.axioms load.facts load.nothing q limit b) same.1
+      (subst (λ (l : Load). IsReply l.axioms l.facts l.nothing also limit b) same.0 second))
 
--- the bytes of the files decide the status
-pub one_status : {x y z : List ℕ} {limit : ℕ} {status other : Status} {text also : List ℕ}
-    → AnswerPrints x y z limit status text → AnswerPrints x y z limit other also → status ≡ other
-one_status (refused r) (refused s) = refl
-one_status (refused (not_built none)) (answers {load = load} {asked = asked} input reply) = absurd (none load asked input)
-one_status (refused (over_limit input reply)) (answers again all) = absurd (replies_exclude input again reply all)
-one_status (answers {load = load} {asked = asked} input reply) (refused (not_built none)) = absurd (none load asked input)
-one_status (answers input all) (refused (over_limit again reply)) = absurd (replies_exclude again input reply all)
-one_status (answers a b) (answers c d) = refl
+  replies_exclude : {tuples : List (List ℕ)} → IsReply load.axioms load.facts load.nothing asked limit too_many
+      → IsReply other.axioms other.facts other.nothing also limit (found tuples) → ⊥
+  replies_exclude {tuples} first second =
+      let equal : too_many ≡ found tuples = same_reply too_many (found tuples) first second in cc
+
+  same_tuples : {tuples others : List (List ℕ)} → IsReply load.axioms load.facts load.nothing asked limit (found tuples)
+      → IsReply other.axioms other.facts other.nothing also limit (found others) → tuples ≡ others
+  same_tuples {tuples} {others} first second =
+      let equal : found tuples ≡ found others = same_reply (found tuples) (found others) first second in cc
+
+-- the bytes of the files decide why they are refused
+one_refusal : {x y z : List ℕ} {limit : ℕ} {one two : Refusal} → IsRefused x y z limit one → IsRefused x y z limit two → one ≡ two
+one_refusal (wrong w) (wrong v) = one_wrong w v
+one_refusal (wrong w) (over_limit input served reply) = absurd (wrong_or_served w input served)
+one_refusal (over_limit input served reply) (wrong w) = absurd (wrong_or_served w input served)
+one_refusal (over_limit a b c) (over_limit d e f) = refl
+
+refused_or_answered : {x y z : List ℕ} {limit : ℕ} {refusal : Refusal} {load : Load} {asked : Query} {tuples : List (List ℕ)}
+    → IsRefused x y z limit refusal → AreInput x y z load asked → is_served load ≡ true
+    → IsReply load.axioms load.facts load.nothing asked limit (found tuples) → ⊥
+refused_or_answered (wrong w) input served reply = wrong_or_served w input served
+refused_or_answered (over_limit again also many) input served reply = replies_exclude again input many reply
+
+-- the bytes of the files decide the output
+pub one_output : {x y z : List ℕ} {limit : ℕ} {status other : Status} {text also : List ℕ}
+    → AnswerPrints x y z limit status text → AnswerPrints x y z limit other also → (status ≡ other) × (text ≡ also)
+one_output (refused r) (refused s) = (refl, ap refusal_text (one_refusal r s))
+one_output (refused r) (answers input served reply) = absurd (refused_or_answered r input served reply)
+one_output (answers input served reply) (refused r) = absurd (refused_or_answered r input served reply)
+one_output (answers {load = load} {tuples = tuples} input served reply) (answers {load = other} {tuples = others} again also more) =
+    let same = (AreInput-unique input again).0 in (
+      refl,
+      ap (λ (l : Load). facts_line (length l.facts) l.skipped ++ answers_text l.names tuples) same
+          ∙ ap (λ t. facts_line (length other.facts) other.skipped ++ answers_text other.names t) (same_tuples input again reply more),
+    )
 
 -- words have one form at most
 form_unique : {words : List (List ℕ)} {form other : Form} → HasForm words form → HasForm words other → form ≡ other
@@ -84,56 +115,78 @@ module _ (words : List (List ℕ)) (ontology facts query : List ℕ) (limit : �
   pub asked_for : (name : List ℕ) → Contains (ontology ∷ facts ∷ query ∷ []) name → AskFor words name
   asked_for name asked = (answer ontology facts query limit, has, asked)
 
--- the words and the bytes of the files decide the status
-pub one_status_of_words : (words : List (List ℕ)) (file_of : List ℕ → List ℕ) {status other : Status} {text also : List ℕ}
-    → Prints words file_of status text → Prints words file_of other also → status ≡ other
-one_status_of_words words file_of (usage none) (usage still) = refl
-one_status_of_words words file_of (usage none) (by_answer has h) = absurd (none _ has)
-one_status_of_words words file_of (by_answer has h) (usage none) = absurd (none _ has)
-one_status_of_words words file_of (by_answer {ontology = o} {facts = d} {query = q} {limit = l} has h) (by_answer other k) =
-    one_status h (for_form words o d q l has file_of (by_answer other k))
+-- the words and the bytes of the files decide the output
+pub one_output_of_words : (words : List (List ℕ)) (file_of : List ℕ → List ℕ) {status other : Status} {text also : List ℕ}
+    → Prints words file_of status text → Prints words file_of other also → (status ≡ other) × (text ≡ also)
+one_output_of_words words file_of (usage none) (usage still) = (refl, refl)
+one_output_of_words words file_of (usage none) (by_answer has h) = absurd (none _ has)
+one_output_of_words words file_of (by_answer has h) (usage none) = absurd (none _ has)
+one_output_of_words words file_of (by_answer {ontology = o} {facts = d} {query = q} {limit = l} has h) (by_answer other k) =
+    one_output h (for_form words o d q l has file_of (by_answer other k))
 
 module _ (o d q : List ℕ) (limit : ℕ) (told : Option (List ℕ → List ℕ)) (Rose : Type 0) where
-  -- files that are no input, a fault of reading, or want of memory
-  pub says_file_fault : (fault : FileFault) (stop : Stop) (output : Result Answers Stop) → output ≡ Err stop → stop ≡ stop_of_file fault
-      → (fault ≡ files.Failed → Rose) → (fault ≡ files.TooLong → IfSome told (λ file_of. IsNoInput (file_of o) (file_of d) (file_of q)))
+  -- a file that is too long, a fault of reading, or want of memory
+  pub says_file_stop : (which : InputFile) (name : List ℕ) (Fault : Type 0) (stop : Stop) (output : Result Answers Stop) → output ≡ Err stop
+      → IsFileStop which told name Fault stop → (Fault → Rose)
+      → (IfSome told (λ file_of. max_bytes < length (file_of name)) → IfSome told (λ file_of. IsFirstTooLong (file_of o) (file_of d) (file_of q) which))
       → Says (AnswerOf o d q limit) told Rose (status_of output) (text_of output)
-  says_file_fault files.Failed stop output is made failed long = rw (is, made) (read_fault (failed refl))
-  says_file_fault files.TooLong stop output is made failed long =
-      rw (is, made) (stopped (if_some told (λ file_of none. refused (not_built none)) (long refl)))
-  says_file_fault files.NoMemory stop output is made failed long = rw (is, made) no_memory
-
-  pub says_fault : (fault : Fault) (stop : Stop) (output : Result Answers Stop) → output ≡ Err stop → stop ≡ stop_of_fault fault
-      → (fault ≡ faults.NotBuilt → IfSome told (λ file_of. IsNoInput (file_of o) (file_of d) (file_of q)))
-      → Says (AnswerOf o d q limit) told Rose (status_of output) (text_of output)
-  says_fault faults.NotBuilt stop output is made none =
-      rw (is, made) (stopped (if_some told (λ file_of none. refused (not_built none)) (none refl)))
-  says_fault faults.NoMemory stop output is made none = rw (is, made) no_memory
+  says_file_stop which name Fault (stops.Refused refusal) output is stopping rose first =
+      rw (is, stopping.1) (stopped (if_some told (λ file_of long. refused (wrong (too_long long))) (first stopping.0)))
+  says_file_stop which name Fault stops.ReadFault output is stopping rose first = rw is (read_fault (rose stopping))
+  says_file_stop which name Fault stops.NoMemory output is stopping rose first = rw is no_memory
 
   pub says_no_memory : (stop : Stop) (output : Result Answers Stop) → output ≡ Err stop → stop ≡ stops.NoMemory
       → Says (AnswerOf o d q limit) told Rose (status_of output) (text_of output)
   says_no_memory stop output is made = rw (is, made) no_memory
 
-  -- the answers to what the files ask, or that they are too many
-  pub says_replies : (load : Load) (asked : Query) → IfSome told (λ file_of. AreInput (file_of o) (file_of d) (file_of q) load asked)
-      → (output : Result Answers Stop) → RepliesTo load asked limit output → Says (AnswerOf o d q limit) told Rose (status_of output) (text_of output)
-  says_replies load asked input (Ok given) replies =
-      done (if_some told (λ file_of input. rw (replies.1, replies.2, replies.3) (answers input replies.0)) input)
-  says_replies load asked input (Err (stops.Refused refusal)) replies =
-      stopped (if_some told (λ file_of input. rw replies.0 (refused (over_limit input replies.1))) input)
-  says_replies load asked input (Err stops.ReadFault) replies = absurd replies
-  says_replies load asked input (Err stops.NoMemory) replies = no_memory
+  module _ (x y z : List ℕ) (ex : IfSome told (λ file_of. x ≡ file_of o)) (ey : IfSome told (λ file_of. y ≡ file_of d)) (ez : IfSome told (λ file_of. z ≡ file_of q)) where
+    -- the first thing that is wrong with the files, or want of memory
+    pub says_stop : (stop : Stop) (output : Result Answers Stop) → output ≡ Err stop → Gives x y z (Err stop)
+        → Says (AnswerOf o d q limit) told Rose (status_of output) (text_of output)
+    says_stop (stops.Refused refusal) output is first =
+        rw is (stopped (if_some told (λ file_of w. refused (wrong w)) (at_files told o d q (λ x y z. IsFirstWrong x y z refusal) ex ey ez first)))
+    says_stop stops.ReadFault output is first = absurd first
+    says_stop stops.NoMemory output is first = rw is no_memory
 
--- a file that is too long is part of no input
-module _ (o d q : List ℕ) (told : Option (List ℕ → List ℕ)) where
-  pub long_ontology : IfSome told (λ file_of. max_bytes < length (file_of o)) → IfSome told (λ file_of. IsNoInput (file_of o) (file_of d) (file_of q))
-  long_ontology = if_some told (λ file_of long load asked input. absurd (omega (arith, long, input.ontology_fits)))
+    -- the answers to what the files ask, or that they are too many
+    pub says_replies : (load : Load) (asked : Query) → AreInput x y z load asked → is_served load ≡ true
+        → (output : Result Answers Stop) → RepliesTo load asked limit output → Says (AnswerOf o d q limit) told Rose (status_of output) (text_of output)
+    says_replies load asked input served (Ok given) replies =
+        done (if_some told (λ file_of input. rw (replies.1, replies.2, replies.3) (answers input served replies.0))
+        (at_files told o d q (λ x y z. AreInput x y z load asked) ex ey ez input))
+    says_replies load asked input served (Err (stops.Refused refusal)) replies =
+        stopped (if_some told (λ file_of input. rw replies.0 (refused (over_limit input served replies.1)))
+        (at_files told o d q (λ x y z. AreInput x y z load asked) ex ey ez input))
+    says_replies load asked input served (Err stops.ReadFault) replies = absurd replies
+    says_replies load asked input served (Err stops.NoMemory) replies = no_memory
 
-  pub long_data : IfSome told (λ file_of. max_bytes < length (file_of d)) → IfSome told (λ file_of. IsNoInput (file_of o) (file_of d) (file_of q))
-  long_data = if_some told (λ file_of long load asked input. absurd (omega (arith, long, input.data_fits)))
+-- a file that was read is not too long
+fits_told : (told : Option (List ℕ → List ℕ)) (name bytes : List ℕ) → IfSome told (λ file_of. bytes ≡ file_of name) → length bytes ≤ max_bytes
+    → IfSome told (λ file_of. length (file_of name) ≤ max_bytes)
+fits_told told name bytes is fits = if_some told (λ file_of is. subst (λ b. length b ≤ max_bytes) is fits) is
 
-  pub long_query : IfSome told (λ file_of. max_bytes < length (file_of q)) → IfSome told (λ file_of. IsNoInput (file_of o) (file_of d) (file_of q))
-  long_query = if_some told (λ file_of long load asked input. absurd (omega (arith, long, input.query_fits)))
+-- the first file that is too long, behind those that were read
+module _ (told : Option (List ℕ → List ℕ)) (o d q : List ℕ) where
+  pub long_ontology : IfSome told (λ file_of. max_bytes < length (file_of o)) → IfSome told (λ file_of. IsFirstTooLong (file_of o) (file_of d) (file_of q) Ontology)
+  long_ontology = if_some told (λ file_of long. ontology_is long)
+
+  module _ (x : List ℕ) (ex : IfSome told (λ file_of. x ≡ file_of o)) (x_fits : length x ≤ max_bytes) where
+    pub long_data : IfSome told (λ file_of. max_bytes < length (file_of d)) → IfSome told (λ file_of. IsFirstTooLong (file_of o) (file_of d) (file_of q) Data)
+    long_data = by told (fits_told told o x ex x_fits)
+      where
+        by : (told : Option (List ℕ → List ℕ)) → IfSome told (λ file_of. length (file_of o) ≤ max_bytes) → IfSome told (λ file_of. max_bytes < length (file_of d))
+            → IfSome told (λ file_of. IsFirstTooLong (file_of o) (file_of d) (file_of q) Data)
+        by None a long = tt
+        by (Some file_of) a long = data_is a long
+
+    pub long_query : (y : List ℕ) → IfSome told (λ file_of. y ≡ file_of d) → length y ≤ max_bytes
+        → IfSome told (λ file_of. max_bytes < length (file_of q)) → IfSome told (λ file_of. IsFirstTooLong (file_of o) (file_of d) (file_of q) QueryFile)
+    long_query y ey y_fits = by told (fits_told told o x ex x_fits) (fits_told told d y ey y_fits)
+      where
+        by : (told : Option (List ℕ → List ℕ)) → IfSome told (λ file_of. length (file_of o) ≤ max_bytes) → IfSome told (λ file_of. length (file_of d) ≤ max_bytes)
+            → IfSome told (λ file_of. max_bytes < length (file_of q)) → IfSome told (λ file_of. IsFirstTooLong (file_of o) (file_of d) (file_of q) QueryFile)
+        by None a b long = tt
+        by (Some file_of) a b long = query_is a b long
 
 -- a count that rose later rose
 pub risen_later : (before between now : ℕ) → before ≤ between → HasRisen between now → HasRisen before now

@@ -1,139 +1,62 @@
 -- The files of `answer` give one input at most, and what was read by places is one by numbers.
-use Rattle.std.proofs.Common.{◌≡◌, ℕ, ◌<◌, ◌≤◌, List, [], ◌∷◌, length, map, get_or, slice_index, subst, ap, sym, ◌∙◌, refl, arith}
+use Rattle.std.proofs.Common.{◌≡◌, ◌↔◌, is_some, ℕ, ◌<◌, ◌≤◌, List, [], ◌∷◌, length, map, get_or, slice_index, slice_get, Option, Some, None, subst, ap, sym, inl, inr, ◌∙◌, refl, arith, true≢false}
 use Rattle.std.specs.declared.cmp.Ordering.{Ordering}
-use Rattle.std.specs.declared.cmp.Ordering.TheVariants.{Less, Equal, Greater}
-use Rattle.std.specs.Ordering.{nat_cmp, ordering_then}
-use Rattle.std.specs.List.{Contains, All, AllByRecursion}
+use Rattle.std.specs.declared.cmp.Ordering.TheVariants.{Less}
+use Rattle.std.specs.List.{All, AllByRecursion}
 use Rattle.std.specs.List.Sorted.{IsStrictlySortedBy}
 use Rattle.std.proofs.lemmas.List.{length-map}
-use Rattle.dl_names.specs.NameList.{Text, names_after}
-use Rattle.dl_names.specs.Frozen.{IsFrozen}
-use Rattle.dl_names.specs.NameList.{max_names}
-use Rattle.dl_names.proofs.NameListLemmas.{length-Extends, Extends-names_after}
-use Rattle.dl_io.specs.Files.{max_bytes}
+use Rattle.std.proofs.lemmas.List.Elements.{All-contains, All-weaker, Contains-get_or}
+use Rattle.dl_names.specs.NameList.{Text, has_name, max_names}
+use Rattle.dl_names.specs.Frozen.{IsFrozen, IsAscending}
+use Rattle.dl_names.specs.Iris.{owl_nothing}
+use Rattle.dl_names.proofs.NameListLemmas.{length-Extends, has_name-slice_get, Extends-names_after}
+use Rattle.dl_names.proofs.FrozenLemmas.{rank-lt, number-unique}
+use Rattle.dl_names.proofs.SameFrozenLemmas.{IsFrozen-same_names, IsFrozen-same_ranks}
 use Rattle.dl_terms.specs.Sets.{IsSetOf}
 use Rattle.dl_terms.specs.Order.{axiom_cmp, fact_cmp}
+use Rattle.dl_terms.specs.Occurring.{axiom_names, fact_names}
 use Rattle.dl_terms.specs.Renamed.{renamed_axiom, renamed_fact, renamed_query}
 use Rattle.dl_terms.specs.declared.axiom.Axiom.{Axiom}
 use Rattle.dl_terms.specs.declared.axiom.Fact.{Fact}
-use Rattle.dl_terms.specs.declared.axiom.Fact.TheVariants.{Is}
 use Rattle.dl_terms.specs.declared.query.Query.{Query}
-use Rattle.dl_run.specs.Asked.{load_of}
-use Rattle.dl_run.specs.Data.{IsData, none, line}
-use Rattle.dl_run.specs.Inclusions.{inclusion}
-use Rattle.dl_run.specs.Input.{Load, AreInput}
-use Rattle.dl_run.specs.Members.{members_of, inclusions_of, class_facts_of}
-use Rattle.dl_run.specs.Numbered.{pair_cmp, IsNumbered}
-use Rattle.dl_run.specs.Ontology.{IsOntology}
-use Rattle.dl_run.specs.Queries.{IsQuery}
-use Rattle.dl_run.specs.Ranked.{ranked_pair}
-use Rattle.dl_run.proofs.BelowLemmas.{Contains-map, Contains-map_of}
-use Rattle.std.proofs.lemmas.List.Elements.{All-contains, All-weaker, Contains-get_or}
-use Rattle.dl_names.proofs.FrozenLemmas.{rank-lt}
-use Rattle.dl_run.proofs.MemberLemmas.{nat_cmp-equal}
-use Rattle.dl_run.proofs.DataLemmas.{IsData-unique}
-use Rattle.dl_run.proofs.OntologyLemmas.{IsOntology-unique}
-use Rattle.dl_run.proofs.QueryLemmas.{IsQuery-unique}
-use Rattle.dl_run.proofs.TokenLemmas.{NameThen-grows}
-use Rattle.dl_names.proofs.SameFrozenLemmas.{IsFrozen-same_names, IsFrozen-same_ranks}
 use Rattle.dl_terms.proofs.AnswerLemmas.{IsSetOf-unique}
+use Rattle.dl_terms.proofs.MemberLemmas.{Contains-cons, Contains-one}
 use Rattle.dl_terms.proofs.OrderLemmas.{axioms_linear, facts_linear}
+use Rattle.dl_terms.proofs.OccurringLemmas.{axiom_names-renamed, fact_names-renamed}
+use Rattle.dl_triples.specs.Reading.{IsValue}
+use Rattle.dl_triples.proofs.PlaceLemmas.{read_grows}
+use Rattle.dl_triples.proofs.ValueLemmas.{one_value as one_data}
+use Rattle.dl_run.specs.Inclusions.{inclusion, inclusions_of}
+use Rattle.dl_run.specs.Input.{Load, IsNumberOf, AreRead, AreInput}
+use Rattle.dl_run.specs.Ranked.{ranked_pair}
+use Rattle.dl_run.proofs.OntologyLemmas.{IsOntology-unique}
+use Rattle.dl_run.specs.Asked.{load_of, query_of, IsNumbered}
+use Rattle.dl_run.specs.Members.{members_of}
+use Rattle.dl_run.specs.Queries.{IsQuery}
+use Rattle.dl_run.specs.declared.answer.Asked.{Asked}
+use Rattle.dl_triples.specs.declared.reading.Triples.{Triples}
+use Rattle.dl_run.proofs.BelowLemmas.{Contains-map}
+use Rattle.dl_run.proofs.QueryLemmas.{IsQuery-unique}
 
--- names only grow
-pub IsData-grows : {bytes : List ℕ} {names after : List Text} {facts : List Fact} → IsData bytes names facts after → length names ≤ length after
-IsData-grows none = omega arith
-IsData-grows {names = names} (line {who = who} {class = class} _ _ _ behind) =
-    let later = IsData-grows behind in
-    omega (arith, later, length-Extends names _ (Extends-names_after names who), length-Extends (names_after names who) _ (Extends-names_after (names_after names who) class))
+-- ---- one input
 
--- the set of the images of a list's items, where the images are in the order of the items
-module _ {A B : Type 0} (cmp : A → A → Ordering) (by : B → B → Ordering) (f : A → B) (same : (x y : A) → by (f x) (f y) ≡ cmp x y) where
-  above : (x : A) (xs : List A) → AllByRecursion (λ y. cmp x y ≡ Less) xs → AllByRecursion (λ z. by (f x) z ≡ Less) (map f xs)
-  above x [] h = tt
-  above x (y ∷ ys) h = (same x y ∙ h.0, above x ys h.1)
+-- ontology and data are read in one way
+pub AreRead-unique : {o d q : List ℕ} {axioms other : List Axiom} {triples others : List Fact} {skipped also : ℕ} {names later : List Text}
+    → AreRead o d q axioms triples skipped names → AreRead o d q other others also later
+    → (axioms ≡ other) × (triples ≡ others) × (skipped ≡ also) × (names ≡ later)
+AreRead-unique {o} {d} {q} {axioms} {other} {triples} {others} {skipped} {also} {names} {later} one two =
+    let first = IsOntology-unique one.is_ontology.is_ontology two.is_ontology.is_ontology in
+    let then =
+    one_data d two.first triples others skipped also names later (subst (λ m. IsValue d m triples skipped names) first.1 one.is_data) two.is_data
+    in
+    (first.0, then.0, then.1, then.2)
 
-  ascends : (xs : List A) → IsStrictlySortedBy cmp xs → IsStrictlySortedBy by (map f xs)
-  unfolding IsStrictlySortedBy
-  ascends [] h = tt
-  ascends (x ∷ xs) h = (above x xs h.0, ascends xs h.1)
-
-  pub IsSetOf-map : (set xs : List A) → IsSetOf cmp set xs → IsSetOf by (map f set) (map f xs)
-  IsSetOf-map set xs of = record {
-    ascending = ascends set of.ascending;
-    members = λ y. (
-      λ h. let x = Contains-map f set y h in subst (Contains (map f xs)) x.2 (Contains-map_of f xs x.0 ((of.members x.0).0 x.1)),
-      λ h. let x = Contains-map f xs y h in subst (Contains (map f set)) x.2 (Contains-map_of f set x.0 ((of.members x.0).1 x.1)),
-    );
-  }
-
-then_equal : (o : Ordering) → ordering_then o Equal ≡ o
-then_equal Less = refl
-then_equal Equal = refl
-then_equal Greater = refl
-
-renamed_inclusions : (ranks : List ℕ) (pairs : List (ℕ × ℕ))
-    → map (renamed_axiom (slice_index ranks)) (inclusions_of pairs) ≡ inclusions_of (map (ranked_pair ranks) pairs)
-renamed_inclusions ranks [] = refl
-renamed_inclusions ranks (p ∷ pairs) = ap (λ rest. inclusion (slice_index ranks p.0) (slice_index ranks p.1) ∷ rest) (renamed_inclusions ranks pairs)
-
-renamed_class_facts : (ranks : List ℕ) (pairs : List (ℕ × ℕ))
-    → map (renamed_fact (slice_index ranks)) (class_facts_of pairs) ≡ class_facts_of (map (ranked_pair ranks) pairs)
-renamed_class_facts ranks [] = refl
-renamed_class_facts ranks (p ∷ pairs) = ap (λ rest. Is (slice_index ranks p.0) (slice_index ranks p.1) ∷ rest) (renamed_class_facts ranks pairs)
-
--- what was read by places, numbered, is the input that the bytes give
-module _ (o d q : List ℕ) (met-1 met-2 met : List Text) (pairs facts : List (ℕ × ℕ)) (class : ℕ)
-    (is_ontology : IsOntology o [] (inclusions_of pairs) met-1) (is_data : IsData d met-1 (class_facts_of facts) met-2)
-    (is_query : IsQuery q met-2 (members_of class) met) where
-  pub input_from : length o ≤ max_bytes → length d ≤ max_bytes → length q ≤ max_bytes → length met ≤ max_names
-      → (names : List Text) (pairs' facts' : List (ℕ × ℕ)) (class' : ℕ) → IsNumbered met pairs facts class names pairs' facts' class'
-      → AreInput o d q (load_of names pairs' facts') (members_of class')
-  input_from o_fits d_fits q_fits fits names pairs' facts' class' n = record {
-    axioms_read = inclusions_of pairs;
-    facts_read = class_facts_of facts;
-    query_read = members_of class;
-    met_first = met-1;
-    met_then = met-2;
-    met = met;
-    is_ontology = is_ontology;
-    is_data = is_data;
-    is_query = is_query;
-    ontology_fits = o_fits;
-    data_fits = d_fits;
-    query_fits = q_fits;
-    names_fit = fits;
-    ranks = n.ranks;
-    is_frozen = n.is_frozen;
-    is_axioms = rw renamed_inclusions
-        (IsSetOf-map pair_cmp axiom_cmp (λ p. inclusion p.0 p.1) (λ x y. ap (ordering_then (nat_cmp x.0 y.0)) (then_equal (nat_cmp x.1 y.1))) pairs' _ n.is_inclusions);
-    is_facts = rw renamed_class_facts (IsSetOf-map pair_cmp fact_cmp (λ p. Is p.0 p.1) (λ x y. refl) facts' _ n.is_facts);
-    is_asked = ap members_of n.is_class;
-    none_skipped = refl;
-    no_nothing = n.no_nothing;
-    nothing_is = refl;
-  }
-
--- the names that are met are those of every input of the bytes
-module _ {o d q : List ℕ} {load : Load} {asked : Query} (input : AreInput o d q load asked) where
-  pub met_first_fits : length input.met_first ≤ max_names
-  met_first_fits = omega (arith, input.names_fit, IsData-grows input.is_data, NameThen-grows input.is_query.predicate)
-
-  pub met_then_fits : length input.met_then ≤ max_names
-  met_then_fits = omega (arith, input.names_fit, NameThen-grows input.is_query.predicate)
-
-  pub same_first : {axioms : List Axiom} {met-1 : List Text} → IsOntology o [] axioms met-1 → (input.axioms_read ≡ axioms) × (input.met_first ≡ met-1)
-  same_first h = IsOntology-unique input.is_ontology h
-
-  pub data_after : {axioms : List Axiom} {met-1 : List Text} → IsOntology o [] axioms met-1 → IsData d met-1 input.facts_read input.met_then
-  data_after h = subst (λ m. IsData d m input.facts_read input.met_then) (same_first h).1 input.is_data
-
-  pub query_after : {axioms : List Axiom} {facts : List Fact} {met-1 met-2 : List Text} → IsOntology o [] axioms met-1 → IsData d met-1 facts met-2
-      → IsQuery q met-2 input.query_read input.met
-  query_after h k = subst (λ m. IsQuery q m input.query_read input.met) (IsData-unique (data_after h) k).1 input.is_query
-
-  pub last_met : {axioms : List Axiom} {facts : List Fact} {query : Query} {met-1 met-2 met-3 : List Text} → IsOntology o [] axioms met-1
-      → IsData d met-1 facts met-2 → IsQuery q met-2 query met-3 → input.met ≡ met-3
-  last_met h k m = (IsQuery-unique (query_after h k) m).1
+-- a text has one number at most
+IsNumberOf-unique : (names : List Text) → IsAscending names → (text : Text) (a b : Option ℕ) → IsNumberOf names text a → IsNumberOf names text b → a ≡ b
+IsNumberOf-unique names ascending text None None h k = refl
+IsNumberOf-unique names ascending text None (Some m) h k = absurd (true≢false (sym (has_name-slice_get names text m k) ∙ h))
+IsNumberOf-unique names ascending text (Some n) None h k = absurd (true≢false (sym (has_name-slice_get names text n h) ∙ k))
+IsNumberOf-unique names ascending text (Some n) (Some m) h k = ap Some (number-unique names ascending n m text h k)
 
 same_load : (l m : Load) → l.names ≡ m.names → l.axioms ≡ m.axioms → l.facts ≡ m.facts → l.skipped ≡ m.skipped → l.nothing ≡ m.nothing → l ≡ m
 same_load l m a b c d e = λ i. record { names = a i; axioms = b i; facts = c i; skipped = d i; nothing = e i }
@@ -141,50 +64,137 @@ same_load l m a b c d e = λ i. record { names = a i; axioms = b i; facts = c i;
 -- the files give one input at most
 pub AreInput-unique : {o d q : List ℕ} {load other : Load} {asked also : Query}
     → AreInput o d q load asked → AreInput o d q other also → (load ≡ other) × (asked ≡ also)
-AreInput-unique {load = load} {other = other} one two =
-    let first = same_first one two.is_ontology in
-    let then = IsData-unique (data_after one two.is_ontology) two.is_data in
-    let last = IsQuery-unique (query_after one two.is_ontology two.is_data) two.is_query in
+AreInput-unique {o} {d} {q} {load} {other} {asked} {also} one two =
+    let read = AreRead-unique one.are_read two.are_read in
+    let last = IsQuery-unique (subst (λ m. IsQuery q m one.query_read one.met) read.3 one.is_query) two.is_query in
     let frozen = subst (λ m. IsFrozen m load.names one.ranks) last.1 one.is_frozen in
     let names = IsFrozen-same_names two.met load.names other.names one.ranks two.ranks frozen two.is_frozen in
     let ranks = IsFrozen-same_ranks two.met load.names other.names one.ranks two.ranks frozen two.is_frozen in
-    let axioms = subst (λ a. IsSetOf axiom_cmp load.axioms (map (renamed_axiom (slice_index two.ranks)) a)) first.0
-    (subst (λ r. IsSetOf axiom_cmp load.axioms (map (renamed_axiom (slice_index r)) one.axioms_read)) ranks one.is_axioms) in
-    let facts = subst (λ a. IsSetOf fact_cmp load.facts (map (renamed_fact (slice_index two.ranks)) a)) then.0
-    (subst (λ r. IsSetOf fact_cmp load.facts (map (renamed_fact (slice_index r)) one.facts_read)) ranks one.is_facts) in (
+    let axioms = subst (λ a. IsSetOf axiom_cmp load.axioms (map (renamed_axiom (slice_index two.ranks)) a)) read.0
+    (subst (λ r. IsSetOf axiom_cmp load.axioms (map (renamed_axiom (slice_index r)) one.axioms)) ranks one.is_axioms) in
+    let facts = subst (λ t. IsSetOf fact_cmp load.facts (map (renamed_fact (slice_index two.ranks)) t)) read.1
+    (subst (λ r. IsSetOf fact_cmp load.facts (map (renamed_fact (slice_index r)) one.triples)) ranks one.is_facts) in
+    let nothing =
+    IsNumberOf-unique other.names two.is_frozen.ascending owl_nothing load.nothing other.nothing
+    (subst (λ n. IsNumberOf n owl_nothing load.nothing) names one.is_nothing) two.is_nothing
+    in (
       same_load load other names (IsSetOf-unique axioms_linear _ _ _ axioms two.is_axioms) (IsSetOf-unique facts_linear _ _ _ facts two.is_facts)
-          (one.none_skipped ∙ sym two.none_skipped) (one.nothing_is ∙ sym two.nothing_is),
+          read.2 nothing,
       one.is_asked ∙ ap (λ r. renamed_query (slice_index r) one.query_read) ranks ∙ ap (renamed_query (slice_index two.ranks)) last.0 ∙ sym two.is_asked,
     )
 
-pub pair_cmp-equal : (x y : ℕ × ℕ) → pair_cmp x y ≡ Equal → x ≡ y
-pair_cmp-equal x y h = by (nat_cmp x.0 y.0) refl h
-  where
-    by : (o : Ordering) → nat_cmp x.0 y.0 ≡ o → ordering_then o (nat_cmp x.1 y.1) ≡ Equal → x ≡ y
-    by Less e g = cc
-    by Greater e g = cc
-    by Equal e g =
-        let first = nat_cmp-equal x.0 y.0 e in
-        let second = nat_cmp-equal x.1 y.1 g in
-        λ i. (first i, second i)
+-- ---- sets by numbers
 
--- a rank is a number of a name, and so are the parts of pairs of ranks
-pub rank_named : (met names : List Text) (ranks : List ℕ) → IsFrozen met names ranks → (place : ℕ) → place < length met → slice_index ranks place < length names
-rank_named met names ranks frozen place h = rank-lt met names ranks frozen place h
+-- the set of a list by an order that agrees with another one
+module _ {A : Type 0} (cmp by : A → A → Ordering) (same : (x y : A) → cmp x y ≡ by x y) where
+  above : (x : A) (xs : List A) → AllByRecursion (λ y. cmp x y ≡ Less) xs → AllByRecursion (λ y. by x y ≡ Less) xs
+  above x [] h = tt
+  above x (y ∷ ys) h = (sym (same x y) ∙ h.0, above x ys h.1)
 
-pub ranked_named : (met names : List Text) (ranks : List ℕ) → IsFrozen met names ranks → (pairs set : List (ℕ × ℕ))
-    → All (λ p. (p.0 < length met) × (p.1 < length met)) pairs → IsSetOf pair_cmp set (map (ranked_pair ranks) pairs)
-    → All (λ p. (p.0 < length names) × (p.1 < length names)) set
-ranked_named met names ranks frozen pairs set placed of k d h =
-    let p = get_or set k d in
-    let x = Contains-map (ranked_pair ranks) pairs p ((of.members p).0 (Contains-get_or set k d h)) in
-    let at = All-contains (λ (p : ℕ × ℕ). (p.0 < length met) × (p.1 < length met)) pairs x.0 placed x.1 in
-    subst (λ (p : ℕ × ℕ). (p.0 < length names) × (p.1 < length names)) x.2
-    (rank_named met names ranks frozen x.0.0 at.0, rank_named met names ranks frozen x.0.1 at.1)
+  ascends : (xs : List A) → IsStrictlySortedBy cmp xs → IsStrictlySortedBy by xs
+  unfolding IsStrictlySortedBy
+  ascends [] h = tt
+  ascends (x ∷ xs) h = (above x xs h.0, ascends xs h.1)
+
+  pub IsSetOf-same : (set items : List A) → IsSetOf cmp set items → IsSetOf by set items
+  IsSetOf-same set items of = record { ascending = ascends set of.ascending; members = of.members }
+
+module _ (met names : List Text) (ranks : List ℕ) (frozen : IsFrozen met names ranks) where
+  -- ranks of places are numbers of names
+  ranked_within : (places : List ℕ) → All (λ place. place < length met) places → All (λ name. name < length names) (map (slice_index ranks) places)
+  ranked_within places all k d h =
+      let x = Contains-map (slice_index ranks) places (get_or (map (slice_index ranks) places) k d) (Contains-get_or _ k d h) in
+      subst (λ n. n < length names) x.2 (rank-lt met names ranks frozen x.0 (All-contains (λ (place : ℕ). place < length met) places x.0 all x.1))
+
+  -- the terms of a set over ranks name names
+  module _ {A : Type 0} (cmp : A → A → Ordering) (names_of : A → List ℕ) (renamed : A → A)
+      (is : (a : A) → names_of (renamed a) ≡ map (slice_index ranks) (names_of a)) where
+    pub ranked_named : (items set : List A) → All (λ a. All (λ place. place < length met) (names_of a)) items → IsSetOf cmp set (map renamed items)
+        → All (λ a. All (λ name. name < length names) (names_of a)) set
+    ranked_named items set all of k d h =
+        let y = get_or set k d in
+        let x = Contains-map renamed items y ((of.members y).0 (Contains-get_or set k d h)) in
+        let within = ranked_within (names_of x.0) (All-contains (λ (a : A). All (λ place. place < length met) (names_of a)) items x.0 all x.1) in
+        subst (λ z. All (λ name. name < length names) (names_of z)) x.2
+        (subst (All (λ name. name < length names)) (sym (is x.0)) within)
+
+  pub ranked_axioms : (items set : List Axiom) → All (λ a. All (λ place. place < length met) (axiom_names a)) items
+      → IsSetOf axiom_cmp set (map (renamed_axiom (slice_index ranks)) items) → All (λ a. All (λ name. name < length names) (axiom_names a)) set
+  ranked_axioms = ranked_named axiom_cmp axiom_names (renamed_axiom (slice_index ranks)) (axiom_names-renamed (slice_index ranks))
+
+  pub ranked_facts : (items set : List Fact) → All (λ f. All (λ place. place < length met) (fact_names f)) items
+      → IsSetOf fact_cmp set (map (renamed_fact (slice_index ranks)) items) → All (λ f. All (λ name. name < length names) (fact_names f)) set
+  ranked_facts = ranked_named fact_cmp fact_names (renamed_fact (slice_index ranks)) (fact_names-renamed (slice_index ranks))
+
+-- ---- places
 
 -- places stay places while names are added
-pub placed_later : (n m : ℕ) (pairs : List (ℕ × ℕ)) → n ≤ m → All (λ p. (p.0 < n) × (p.1 < n)) pairs → All (λ p. (p.0 < m) × (p.1 < m)) pairs
-placed_later n m pairs more =
+pub placed_later : {A : Type 0} (names_of : A → List ℕ) (n m : ℕ) (items : List A) → n ≤ m
+    → All (λ a. All (λ place. place < n) (names_of a)) items → All (λ a. All (λ place. place < m) (names_of a)) items
+placed_later {A} names_of n m items more =
+    All-weaker (λ (a : A). All (λ place. place < n) (names_of a)) (λ a. All (λ place. place < m) (names_of a))
+    (λ a h. All-weaker (λ (place : ℕ). place < n) (λ place. place < m) (λ place below. omega arith) (names_of a) h) items
+
+-- reading the data adds names alone
+pub data_grows : {bytes : List ℕ} {names after : List Text} {triples : List Fact} {skipped : ℕ} → IsValue bytes names triples skipped after
+    → length names ≤ length after
+data_grows {names = names} {after = after} value = length-Extends names after (read_grows value.read)
+
+-- and so does reading the query
+pub query_grows : {bytes : List ℕ} {names after : List Text} {asked : Query} → IsQuery bytes names asked after → length names ≤ length after
+query_grows {names = names} {after = after} query =
+    subst (λ l. length names ≤ length l) (sym query.named) (length-Extends names _ (Extends-names_after names query.class))
+
+-- what was read by places, numbered, is the input that the bytes give
+pub input_from : (o d q : List ℕ) (inclusions : List (ℕ × ℕ)) (triples : Triples) (before met : List Text) (class : ℕ) (asked : Asked)
+    → AreRead o d q (inclusions_of inclusions) triples.facts triples.skipped before → IsQuery q before (members_of class) met
+    → length met ≤ max_names → IsNumbered met inclusions triples class asked → AreInput o d q (load_of asked) (query_of asked)
+input_from o d q inclusions triples before met class asked read query fits numbered = record {
+  axioms = inclusions_of inclusions;
+  triples = triples.facts;
+  query_read = members_of class;
+  met_before = before;
+  met = met;
+  are_read = rw numbered.is_skipped read;
+  is_query = query;
+  names_fit = fits;
+  ranks = numbered.ranks;
+  is_frozen = numbered.is_frozen;
+  is_axioms = numbered.is_axioms;
+  is_facts = numbered.is_facts;
+  is_asked = ap members_of numbered.is_class;
+  is_nothing = numbered.is_nothing;
+}
+
+-- the number of a text, as a search for it gives it
+pub number_found : (names : List Text) (text : Text) (o : Option ℕ) → ((n : ℕ) → (o ≡ Some n) ↔ (slice_get names n ≡ Some text))
+    → is_some o ≡ has_name names text → IsNumberOf names text o
+number_found names text (Some n) some none = (some n).0 refl
+number_found names text None some none = sym none
+
+-- inclusions by ranks
+pub renamed_inclusions : (ranks : List ℕ) (pairs : List (ℕ × ℕ))
+    → inclusions_of (map (ranked_pair ranks) pairs) ≡ map (renamed_axiom (slice_index ranks)) (inclusions_of pairs)
+renamed_inclusions ranks [] = refl
+renamed_inclusions ranks (p ∷ pairs) = ap (λ rest. inclusion (slice_index ranks p.0) (slice_index ranks p.1) ∷ rest) (renamed_inclusions ranks pairs)
+
+-- and their places
+pub inclusions_placed : (n : ℕ) (pairs : List (ℕ × ℕ)) → All (λ p. (p.0 < n) × (p.1 < n)) pairs
+    → All (λ a. All (λ place. place < n) (axiom_names a)) (inclusions_of pairs)
+inclusions_placed n pairs all k d h =
+    let x = Contains-map (λ (p : ℕ × ℕ). inclusion p.0 p.1) pairs (get_or (inclusions_of pairs) k d) (Contains-get_or _ k d h) in
+    let within = All-contains (λ (p : ℕ × ℕ). (p.0 < n) × (p.1 < n)) pairs x.0 all x.1 in
+    subst (λ (a : Axiom). All (λ place. place < n) (axiom_names a)) x.2 (two x.0.0 x.0.1 within.0 within.1)
+  where
+    two : (a b : ℕ) → a < n → b < n → All (λ place. place < n) (a ∷ b ∷ [])
+    two a b f g j e j_in = elim (Contains-cons a (get_or (a ∷ b ∷ []) j e) (b ∷ []) (Contains-get_or (a ∷ b ∷ []) j e j_in)) [
+      | inl same ↦ subst (λ z. z < n) same f
+      | inr more ↦ subst (λ z. z < n) (Contains-one b (get_or (a ∷ b ∷ []) j e) more) g
+    ]
+
+-- places of pairs stay places while names are added
+pub pairs_later : (n m : ℕ) (pairs : List (ℕ × ℕ)) → n ≤ m → All (λ p. (p.0 < n) × (p.1 < n)) pairs → All (λ p. (p.0 < m) × (p.1 < m)) pairs
+pairs_later n m pairs more =
     All-weaker (λ (p : ℕ × ℕ). (p.0 < n) × (p.1 < n)) (λ p. (p.0 < m) × (p.1 < m)) (λ p h. (omega (arith, h.0), omega (arith, h.1))) pairs
 
 -- a set of names is as long as the keys that hold it

@@ -6,11 +6,11 @@ use Rattle.std.proofs.lemmas.List.Elements.{All-from_recursion}
 use Rattle.dl_names.specs.NameList.{Text}
 use Rattle.dl_terms.specs.declared.axiom.Axiom.{Axiom}
 use Rattle.dl_run.specs.Inclusions.{inclusion}
-use Rattle.dl_run.specs.Tokens.{WordThen, NameThen}
+use Rattle.dl_run.specs.Tokens.{WordThen, PlaceThen}
 use Rattle.dl_run.specs.Ontology.{AxiomsThen, none, one, IsOntology}
 use Rattle.dl_run.specs.Reading.{ClassesThen, NoAxiomNext}
-use Rattle.dl_run.proofs.ScanLemmas.{NameThen-unique}
-use Rattle.dl_run.proofs.TokenLemmas.{WordThen-unique, WordThen-shorter, NameThen-shorter, NameThen-grows, NameThen-within}
+use Rattle.dl_run.proofs.ScanLemmas.{PlaceThen-unique}
+use Rattle.dl_run.proofs.TokenLemmas.{WordThen-unique, WordThen-shorter, PlaceThen-shorter, PlaceThen-grows, PlaceThen-within}
 
 -- ---- two classes in parentheses
 
@@ -19,11 +19,11 @@ pub ClassesThen-unique : {bytes : List ℕ} {names : List Text} {sub sup sub' su
     → (sub ≡ sub') × (sup ≡ sup') × (rest ≡ rest') × (after ≡ after')
 ClassesThen-unique {bytes} {names} {sub} {sup} {sub'} {sup'} {rest} {rest'} {after} {after'} h h' =
     let subject = WordThen-unique (codes "(") bytes h.subject h.open_parenthesis h'.subject h'.open_parenthesis in
-    let first = NameThen-unique h.first (subst (λ b. NameThen b names sub' h'.object h'.named) (sym subject) h'.first) in
+    let first = PlaceThen-unique h.first (subst (λ b. PlaceThen b names sub' h'.object h'.named) (sym subject) h'.first) in
     let second =
-    NameThen-unique h.second
-    (subst (λ b. NameThen b h.named sup' h'.closed after') (sym first.1)
-    (subst (λ l. NameThen h'.object l sup' h'.closed after') (sym first.2) h'.second))
+    PlaceThen-unique h.second
+    (subst (λ b. PlaceThen b h.named sup' h'.closed after') (sym first.1)
+    (subst (λ l. PlaceThen h'.object l sup' h'.closed after') (sym first.2) h'.second))
     in
     let close = subst (λ b. WordThen (codes ")") b rest') (sym second.1) h'.close_parenthesis in
     (first.0, second.0, WordThen-unique (codes ")") h.closed rest h.close_parenthesis rest' close, second.2)
@@ -34,34 +34,34 @@ module _ {bytes : List ℕ} {names : List Text} {sub sup : ℕ} {rest : List ℕ
       omega (
         arith,
         WordThen-shorter (codes "(") bytes next.subject next.open_parenthesis,
-        NameThen-shorter next.first,
-        NameThen-shorter next.second,
+        PlaceThen-shorter next.first,
+        PlaceThen-shorter next.second,
         WordThen-shorter (codes ")") next.closed rest next.close_parenthesis,
       )
 
   pub ClassesThen-grows : length names ≤ length after
-  ClassesThen-grows = omega (arith, NameThen-grows next.first, NameThen-grows next.second)
+  ClassesThen-grows = omega (arith, PlaceThen-grows next.first, PlaceThen-grows next.second)
 
   pub ClassesThen-within : (sub < length after) × (sup < length after)
   ClassesThen-within =
-      (omega (arith, NameThen-within next.first, NameThen-grows next.second), NameThen-within next.second)
+      (omega (arith, PlaceThen-within next.first, PlaceThen-grows next.second), PlaceThen-within next.second)
 
 -- the second class, behind the first one
 pub record Second (object : List ℕ) (names : List Text) (sup : ℕ) (rest : List ℕ) (after : List Text) : Type 0 where
   pub closed : List ℕ
-  pub name : NameThen object names sup closed after
+  pub name : PlaceThen object names sup closed after
   pub close_parenthesis : WordThen (codes ")") closed rest
 
 pub second_of : {bytes : List ℕ} {names : List Text} {sub sup : ℕ} {rest : List ℕ} {after : List Text} → ClassesThen bytes names sub sup rest after
-    → (subject : List ℕ) → WordThen (codes "(") bytes subject → {sub' : ℕ} {object : List ℕ} {named : List Text} → NameThen subject names sub' object named
+    → (subject : List ℕ) → WordThen (codes "(") bytes subject → {sub' : ℕ} {object : List ℕ} {named : List Text} → PlaceThen subject names sub' object named
     → Second object named sup rest after
 second_of {bytes} {names} {sub} {sup} {rest} {after} h subject begin {sub'} {object} {named} first =
     let start = WordThen-unique (codes "(") bytes h.subject h.open_parenthesis subject begin in
-    let same = NameThen-unique (subst (λ b. NameThen b names sub h.object h.named) start h.first) first in
+    let same = PlaceThen-unique (subst (λ b. PlaceThen b names sub h.object h.named) start h.first) first in
     record {
       closed = h.closed;
       name =
-          subst (λ b. NameThen b named sup h.closed after) same.1 (subst (λ l. NameThen h.object l sup h.closed after) same.2 h.second);
+          subst (λ b. PlaceThen b named sup h.closed after) same.1 (subst (λ l. PlaceThen h.object l sup h.closed after) same.2 h.second);
       close_parenthesis = h.close_parenthesis;
     }
 
@@ -132,7 +132,7 @@ AxiomsThen-unique {axioms' = axioms'} {rest' = rest'} {after' = after'} (one {su
 pub AxiomsThen-grows : {bytes : List ℕ} {names : List Text} {axioms : List Axiom} {rest : List ℕ} {after : List Text} → AxiomsThen bytes names axioms rest after → length names ≤ length after
 AxiomsThen-grows none = omega arith
 AxiomsThen-grows (one keyword begin first second close more) =
-    let later = AxiomsThen-grows more in omega (arith, NameThen-grows first, NameThen-grows second, later)
+    let later = AxiomsThen-grows more in omega (arith, PlaceThen-grows first, PlaceThen-grows second, later)
 
 -- the places of the classes are within the names
 AxiomsThen-within : {bytes : List ℕ} {names : List Text} {axioms : List Axiom} {rest : List ℕ} {after : List Text} → AxiomsThen bytes names axioms rest after
@@ -145,7 +145,7 @@ AxiomsThen-within (one {sub = sub} {sup} {axioms} keyword begin first second clo
     let sup_is : sup ≡ p.1 = cc in
     let tail : axioms ≡ map (λ (q : ℕ × ℕ). inclusion q.0 q.1) pairs = cc in
     let later = AxiomsThen-grows more in
-    ((omega (arith, sub_is, NameThen-within first, NameThen-grows second, later), omega (arith, sup_is, NameThen-within second, later)), AxiomsThen-within more pairs tail)
+    ((omega (arith, sub_is, PlaceThen-within first, PlaceThen-grows second, later), omega (arith, sup_is, PlaceThen-within second, later)), AxiomsThen-within more pairs tail)
 
 pub places_within : {bytes : List ℕ} {names : List Text} {rest : List ℕ} {after : List Text} (pairs : List (ℕ × ℕ))
     → AxiomsThen bytes names (map (λ p. inclusion p.0 p.1) pairs) rest after → All (λ p. (p.0 < length after) × (p.1 < length after)) pairs

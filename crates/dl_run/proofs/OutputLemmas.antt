@@ -7,8 +7,10 @@ use Rattle.dl_io.specs.Gathering.{Gathered, Takes, TakesPrefix}
 use Rattle.dl_io.proofs.Gathered.{Takes-append, TakesPrefix-append, TakesPrefix-front}
 use Rattle.dl_names.specs.NameList.{Text}
 use Rattle.dl_run.specs.Members.{singles}
-use Rattle.dl_run.specs.Refusals.{refusal_text}
-use Rattle.dl_run.specs.declared.stop.Refusal.TheVariants.{TooMany}
+use Rattle.dl_run.specs.Pieces.{digits_of, text_of_words}
+use Rattle.dl_run.specs.Refusals.{refusal_words, refusal_text}
+use Rattle.dl_run.specs.declared.refusals.Words.{Words}
+use Rattle.dl_run.specs.declared.stop.Refusal.{Refusal}
 use Rattle.dl_run.specs.Output.{facts_line, answers_text, tuple_line}
 
 -- the first i items, and one more
@@ -39,11 +41,17 @@ module _ {A : Type 0} (f : A → List ℕ) (xs : List A) (i : ℕ) (d : A) (h : 
       (TakesPrefix-front before now _ _
       (subst (TakesPrefix before now) (sym (texts_next f xs i d h)) (TakesPrefix-append before between now _ _ so_far (subst (TakesPrefix between now) is takes))))
 
--- the refusal of more answers than the limit, from its pieces
-pub too_many_text : (limit : ℕ) (digits : List ℕ) → digits ≡ decimal limit
-    → codes "refused: " ++ (codes "more than " ++ (digits ++ (codes " answers" ++ 10 ∷ []))) ≡ refusal_text (TooMany limit)
-too_many_text limit digits is =
-    rw is (ap (λ rest. codes "refused: more than " ++ rest) (sym (append_assoc (decimal limit) (codes " answers") (10 ∷ []))))
+-- a refusal, from its pieces
+pub refusal_pieces : (words : Words) (digits : List ℕ) (refusal : Refusal) → digits ≡ digits_of words.number
+    → text_of_words words ≡ refusal_words refusal
+    → codes "refused: " ++ (words.before.now ++ (digits ++ (words.behind.now ++ 10 ∷ []))) ≡ refusal_text refusal
+refusal_pieces words digits refusal is text =
+    gathered words.before.now digits words.behind.now
+    ∙ ap (λ d. codes "refused: " ++ ((words.before.now ++ (d ++ words.behind.now)) ++ 10 ∷ [])) is
+    ∙ ap (λ t. codes "refused: " ++ (t ++ 10 ∷ [])) text
+  where
+    gathered : (a d b : List ℕ) → codes "refused: " ++ (a ++ (d ++ (b ++ 10 ∷ []))) ≡ codes "refused: " ++ ((a ++ (d ++ b)) ++ 10 ∷ [])
+    gathered a d b = ap (λ t. codes "refused: " ++ t) (simp append_assoc)
 
 -- lines of single names
 lines_of : (names : List Text) (xs : List ℕ) → flat_map (tuple_line names) (singles xs) ≡ flat_map (λ n. tuple_line names (n ∷ [])) xs

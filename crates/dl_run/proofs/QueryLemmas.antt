@@ -4,14 +4,14 @@ use Rattle.std.specs.List.{list_all, position_or_len}
 use Rattle.std.proofs.lemmas.Bool.{and_parts, and_from, or_cases, eqb-true, cond_both, ltb-false}
 use Rattle.std.proofs.lemmas.List.{take-append-drop, length-take-le}
 use Rattle.std.proofs.lemmas.List.Sums.{prefix_len-le-length}
-use Rattle.dl_names.specs.NameList.{Text}
+use Rattle.dl_names.specs.NameList.{Text, names_after, place_of}
 use Rattle.dl_terms.specs.declared.query.Query.{Query}
 use Rattle.dl_run.specs.Members.{members_of}
 use Rattle.dl_run.specs.Tokens.{is_blank, trimmed, WordThen, NameThen}
-use Rattle.dl_run.specs.Queries.{is_variable_byte, IsVariable, IsQuery}
+use Rattle.dl_run.specs.Queries.{is_variable_byte, IsVariable, AsksFor, IsQuery}
 use Rattle.dl_run.specs.Reading.{ends_variable, VariableThen}
 use Rattle.dl_run.proofs.ScanLemmas.{NameThen-unique}
-use Rattle.dl_run.proofs.TokenLemmas.{WordThen-unique, NameThen-grows}
+use Rattle.dl_run.proofs.TokenLemmas.{WordThen-unique}
 
 -- ---- variables
 
@@ -122,10 +122,10 @@ variable_read bytes start tail len start_is stands len_is some =
 
 -- ---- queries, as far as they are read
 
-module _ {bytes : List ℕ} {names : List Text} {query : Query} {after : List Text} (q : IsQuery bytes names query after)
+module _ {bytes : List ℕ} {class : Text} (q : AsksFor bytes class)
     (opened : List ℕ) (keyword : WordThen (codes "q") bytes opened) (head : List ℕ) (head_open : WordThen (codes "(") opened head) where
-  head_variable : WordThen (63 ∷ q.variable) head q.closed
-  head_variable =
+  pub head_stands : WordThen (63 ∷ q.variable) head q.closed
+  head_stands =
       let first = WordThen-unique (codes "q") bytes q.opened q.keyword opened keyword in
       let second = WordThen-unique (codes "(") opened q.head (subst (λ b. WordThen (codes "(") b q.head) first q.head_open) head head_open in
       subst (λ b. WordThen (63 ∷ q.variable) b q.closed) second q.head_variable
@@ -133,7 +133,7 @@ module _ {bytes : List ℕ} {names : List Text} {query : Query} {after : List Te
   module _ {word closed : List ℕ} (variable : VariableThen head word closed) where
     same_variable : (word ≡ 63 ∷ q.variable) × (closed ≡ q.closed)
     same_variable =
-        VariableThen-unique variable q.variable q.closed q.is_variable head_variable (close_ends q.closed q.turned q.head_close)
+        VariableThen-unique variable q.variable q.closed q.is_variable head_stands (close_ends q.closed q.turned q.head_close)
 
     pub turned_stands : WordThen (codes ")") closed q.turned
     turned_stands = subst (λ b. WordThen (codes ")") b q.turned) (sym same_variable.1) q.head_close
@@ -144,15 +144,13 @@ module _ {bytes : List ℕ} {names : List Text} {query : Query} {after : List Te
           subst (λ b. WordThen (codes ":-") b q.body) (WordThen-unique (codes ")") closed q.turned turned_stands turned head_close) q.turnstile
 
       module _ (body : List ℕ) (turnstile : WordThen (codes ":-") turned body) where
-        pub class_stands : NameThen body names q.class q.atom after
+        pub class_stands : NameThen body class q.atom
         class_stands =
-            subst (λ b. NameThen b names q.class q.atom after) (WordThen-unique (codes ":-") turned q.body body_stands body turnstile) q.predicate
+            subst (λ b. NameThen b class q.atom) (WordThen-unique (codes ":-") turned q.body body_stands body turnstile) q.predicate
 
-        module _ {class : ℕ} {atom : List ℕ} {met : List Text} (predicate : NameThen body names class atom met) where
-          pub same_class : (query ≡ members_of class) × (after ≡ met)
-          same_class =
-              let same = NameThen-unique class_stands predicate in
-              (q.is ∙ ap members_of same.0, same.2)
+        module _ {text : Text} {atom : List ℕ} (predicate : NameThen body text atom) where
+          pub same_class : class ≡ text
+          same_class = (NameThen-unique class_stands predicate).0
 
           pub term_stands : WordThen (codes "(") atom q.term
           term_stands = subst (λ b. WordThen (codes "(") b q.term) (NameThen-unique class_stands predicate).1 q.atom_open
@@ -172,9 +170,8 @@ module _ {bytes : List ℕ} {names : List Text} {query : Query} {after : List Te
                   ap trimmed (WordThen-unique (codes ")") last rest atom_close q.rest rest_stands) ∙ q.end
 
 -- the bytes are at most one query
-pub IsQuery-unique : {bytes : List ℕ} {names : List Text} {query query' : Query} {after after' : List Text}
-    → IsQuery bytes names query after → IsQuery bytes names query' after' → (query ≡ query') × (after ≡ after')
-IsQuery-unique q q' =
+pub AsksFor-unique : {bytes : List ℕ} {class class' : Text} → AsksFor bytes class → AsksFor bytes class' → class ≡ class'
+AsksFor-unique q q' =
     let variable : VariableThen q'.head (63 ∷ q'.variable) q'.closed = record {
       name = q'.variable;
       is_variable = q'.is_variable;
@@ -182,9 +179,11 @@ IsQuery-unique q q' =
       stands = q'.head_variable;
       ends = close_ends q'.closed q'.turned q'.head_close;
     } in
-    let same = same_class q q'.opened q'.keyword q'.head q'.head_open variable q'.turned q'.head_close q'.body q'.turnstile q'.predicate in
-    (same.0 ∙ sym q'.is, same.1)
+    same_class q q'.opened q'.keyword q'.head q'.head_open variable q'.turned q'.head_close q'.body q'.turnstile q'.predicate
 
--- names only grow
-pub IsQuery-grows : {bytes : List ℕ} {names : List Text} {query : Query} {after : List Text} → IsQuery bytes names query after → length names ≤ length after
-IsQuery-grows q = NameThen-grows q.predicate
+pub IsQuery-unique : {bytes : List ℕ} {names : List Text} {query query' : Query} {after after' : List Text}
+    → IsQuery bytes names query after → IsQuery bytes names query' after' → (query ≡ query') × (after ≡ after')
+IsQuery-unique {names = names} q q' =
+    let class = AsksFor-unique q.asks q'.asks in
+    let same = q.named ∙ ap (names_after names) class ∙ sym q'.named in
+    (q.is ∙ ap (λ l. members_of (place_of l q.class)) same ∙ ap (λ t. members_of (place_of _ t)) class ∙ sym q'.is, same)

@@ -12,7 +12,7 @@ use Rattle.dl_names.proofs.NameListLemmas.{names_after-new}
 use Rattle.dl_run.specs.declared.fault.Fault.TheVariants.{NotBuilt}
 use Rattle.dl_run.specs.Faults.{fault_of}
 use Rattle.dl_names.specs.Iris.{is_iri_byte, IsName}
-use Rattle.dl_run.specs.Tokens.{trimmed, WordThen, NameThen}
+use Rattle.dl_run.specs.Tokens.{trimmed, WordThen, NameThen, PlaceThen}
 
 -- where an IRI ends
 abbrev pub iri_len : List ℕ → ℕ
@@ -73,14 +73,22 @@ iri_one (b ∷ text) (b' ∷ text') rest rest' h h' is =
     ((λ i. head i ∷ more.0 i), more.1)
 
 -- so a name that stands next is one
+pub NameThen-unique : {bytes : List ℕ} {text text' : Text} {rest rest' : List ℕ}
+    → NameThen bytes text rest → NameThen bytes text' rest' → (text ≡ text') × (rest ≡ rest')
+NameThen-unique {bytes} {text} {text'} {rest} {rest'} h h' =
+    let stands = h.stands in
+    let also = h'.stands in
+    iri_one text text' rest rest' h.name.iri.characters h'.name.iri.characters (cc)
+
+-- so a name that stands next is one
 pub name_one : (bytes text text' rest rest' : List ℕ) → trimmed bytes ≡ 60 ∷ text ++ 62 ∷ rest → IsName text
     → trimmed bytes ≡ 60 ∷ text' ++ 62 ∷ rest' → IsName text' → (text ≡ text') × (rest ≡ rest')
 name_one bytes text text' rest rest' is name is' name' =
     iri_one text text' rest rest' name.iri.characters name'.iri.characters (cc)
 
-pub NameThen-unique : {bytes : List ℕ} {names : List Text} {place place' : ℕ} {rest rest' : List ℕ} {after after' : List Text}
-    → NameThen bytes names place rest after → NameThen bytes names place' rest' after' → (place ≡ place') × (rest ≡ rest') × (after ≡ after')
-NameThen-unique {bytes} {names} {place} {place'} {rest} {rest'} {after} {after'} h h' =
+pub PlaceThen-unique : {bytes : List ℕ} {names : List Text} {place place' : ℕ} {rest rest' : List ℕ} {after after' : List Text}
+    → PlaceThen bytes names place rest after → PlaceThen bytes names place' rest' after' → (place ≡ place') × (rest ≡ rest') × (after ≡ after')
+PlaceThen-unique {bytes} {names} {place} {place'} {rest} {rest'} {after} {after'} h h' =
     let one = name_one bytes h.text h'.text rest rest' h.stands h.name h'.stands h'.name in
     let same : after ≡ after' = h.named ∙ ap (names_after names) one.0 ∙ sym h'.named in
     (h.at ∙ ap (place_of after) one.0 ∙ ap (λ l. place_of l h'.text) same ∙ sym h'.at, one.1, same)

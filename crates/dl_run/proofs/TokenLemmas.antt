@@ -4,7 +4,7 @@ use Rattle.std.proofs.lemmas.Bool.{cond_both}
 use Rattle.std.proofs.lemmas.List.{length-append, append_cancel_left}
 use Rattle.dl_names.specs.NameList.{Text, has_name}
 use Rattle.dl_names.proofs.NameListLemmas.{Extends-names_after, length-Extends, has_name-names_after, place_of-lt}
-use Rattle.dl_run.specs.Tokens.{is_blank, trimmed, WordThen, NameThen}
+use Rattle.dl_run.specs.Tokens.{is_blank, trimmed, WordThen, PlaceThen}
 
 pub length-trimmed : (bytes : List ℕ) → length (trimmed bytes) ≤ length bytes
 length-trimmed [] = omega arith
@@ -19,16 +19,16 @@ module _ (word bytes rest : List ℕ) (stands : WordThen word bytes rest) where
   pub WordThen-shorter : length word + length rest ≤ length bytes
   WordThen-shorter = omega (arith, ap length stands ∙ length-append word rest, length-trimmed bytes)
 
-module _ {bytes : List ℕ} {names : List Text} {place : ℕ} {rest : List ℕ} {after : List Text} (next : NameThen bytes names place rest after) where
-  pub NameThen-shorter : length rest < length bytes
-  NameThen-shorter = omega (arith, ap length next.stands, length-append next.text (62 ∷ rest), length-trimmed bytes)
+module _ {bytes : List ℕ} {names : List Text} {place : ℕ} {rest : List ℕ} {after : List Text} (next : PlaceThen bytes names place rest after) where
+  pub PlaceThen-shorter : length rest < length bytes
+  PlaceThen-shorter = omega (arith, ap length next.stands, length-append next.text (62 ∷ rest), length-trimmed bytes)
 
   -- names only grow
-  pub NameThen-grows : length names ≤ length after
-  NameThen-grows = subst (λ l. length names ≤ length l) (sym next.named) (length-Extends names _ (Extends-names_after names next.text))
+  pub PlaceThen-grows : length names ≤ length after
+  PlaceThen-grows = subst (λ l. length names ≤ length l) (sym next.named) (length-Extends names _ (Extends-names_after names next.text))
 
   -- the place is within the names
-  pub NameThen-within : place < length after
-  NameThen-within =
+  pub PlaceThen-within : place < length after
+  PlaceThen-within =
       let named = subst (λ l. has_name l next.text ≡ true) (sym next.named) (has_name-names_after names next.text) in
       omega (arith, next.at, place_of-lt after next.text named)

@@ -1,20 +1,23 @@
 -- What the files of the command `answer` give: the names, the load and the query.
-use Rattle.std.specs.Prelude.{◌≡◌, ℕ, ◌≤◌, false, List, [], length, map, slice_index, Option, None}
+use Rattle.std.specs.Prelude.{◌≡◌, ℕ, ◌<◌, ◌≤◌, false, List, [], length, map, slice_get, slice_index, Option, Some, None}
 use Rattle.dl_io.specs.Files.{max_bytes}
 use Rattle.dl_names.specs.NameList.{Text, has_name, max_names}
 use Rattle.dl_names.specs.Frozen.{IsFrozen}
+use Rattle.dl_names.specs.Iris.{owl_nothing}
 use Rattle.dl_terms.specs.Order.{axiom_cmp, fact_cmp}
 use Rattle.dl_terms.specs.Sets.{IsSetOf}
 use Rattle.dl_terms.specs.Renamed.{renamed_axiom, renamed_fact, renamed_query}
 use Rattle.dl_terms.specs.declared.axiom.Axiom.{Axiom}
 use Rattle.dl_terms.specs.declared.axiom.Fact.{Fact}
 use Rattle.dl_terms.specs.declared.query.Query.{Query}
-use Rattle.dl_names.specs.Iris.{owl_nothing}
+use Rattle.dl_triples.specs.Reading.{IsValue}
+use Rattle.dl_run.specs.declared.stop.InputFile.{InputFile}
+use Rattle.dl_run.specs.declared.stop.InputFile.TheVariants as file
 use Rattle.dl_run.specs.Ontology.{IsOntology}
-use Rattle.dl_run.specs.Data.{IsData}
 use Rattle.dl_run.specs.Queries.{IsQuery}
 
--- the names in byte order, the sets of axioms and facts over their numbers, the number of skipped triples, and that of owl:Nothing
+-- the names in byte order, the sets of axioms and facts over their numbers, how many triples were skipped, and the
+-- number of owl:Nothing, where it is a name
 pub record Load : Type 0 where
   pub names : List Text
   pub axioms : List Axiom
@@ -22,30 +25,53 @@ pub record Load : Type 0 where
   pub skipped : ℕ
   pub nothing : Option ℕ
 
--- the three files give this load and this query
-pub record AreInput (ontology facts query : List ℕ) (load : Load) (asked : Query) : Type 0 where
-  -- what is read, its names as places by first occurrence
-  pub axioms_read : List Axiom
-  pub facts_read : List Fact
-  pub query_read : Query
-  pub met_first : List Text
-  pub met_then : List Text
-  pub met : List Text
-  pub is_ontology : IsOntology ontology [] axioms_read met_first
-  pub is_data : IsData facts met_first facts_read met_then
-  pub is_query : IsQuery query met_then query_read met
-  -- no file is too long, and the names fit
+-- the number of a text among the names, or that it is none of them
+abbrev pub IsNumberOf : List Text → Text → Option ℕ → Type 0
+IsNumberOf names text (Some n) = slice_get names n ≡ Some text
+IsNumberOf names text None = has_name names text ≡ false
+
+-- this file is too long, and none before it is
+pub data IsFirstTooLong (ontology facts query : List ℕ) : InputFile → Type 0 where
+  ontology_is : max_bytes < length ontology → IsFirstTooLong ontology facts query file.Ontology
+  data_is : length ontology ≤ max_bytes → max_bytes < length facts → IsFirstTooLong ontology facts query file.Data
+  query_is : length ontology ≤ max_bytes → length facts ≤ max_bytes → max_bytes < length query
+      → IsFirstTooLong ontology facts query file.Query
+
+-- no file is too long
+pub record AllFit (ontology facts query : List ℕ) : Type 0 where
   pub ontology_fits : length ontology ≤ max_bytes
   pub data_fits : length facts ≤ max_bytes
   pub query_fits : length query ≤ max_bytes
+
+-- the bytes are an ontology of these axioms, and its names, in the order of their places, fit
+pub record IsFittingOntology (bytes : List ℕ) (axioms : List Axiom) (names : List Text) : Type 0 where
+  pub is_ontology : IsOntology bytes [] axioms names
+  pub names_fit : length names ≤ max_names
+
+-- no file is too long, the ontology is of the form that is read so far, and the data has no fault: the axioms, the facts
+-- of the data, how many triples are skipped, and the names, each at its place by first occurrence
+pub record AreRead (ontology facts query : List ℕ) (axioms : List Axiom) (triples : List Fact) (skipped : ℕ)
+    (names : List Text) : Type 0 where
+  pub fit : AllFit ontology facts query
+  pub first : List Text
+  pub is_ontology : IsFittingOntology ontology axioms first
+  pub is_data : IsValue facts first triples skipped names
+
+-- the three files give this load and this query
+pub record AreInput (ontology facts query : List ℕ) (load : Load) (asked : Query) : Type 0 where
+  -- what is read, by the places of names
+  pub axioms : List Axiom
+  pub triples : List Fact
+  pub query_read : Query
+  pub met_before : List Text
+  pub met : List Text
+  pub are_read : AreRead ontology facts query axioms triples load.skipped met_before
+  pub is_query : IsQuery query met_before query_read met
   pub names_fit : length met ≤ max_names
   -- the number of a name is its rank
   pub ranks : List ℕ
   pub is_frozen : IsFrozen met load.names ranks
-  pub is_axioms : IsSetOf axiom_cmp load.axioms (map (renamed_axiom (slice_index ranks)) axioms_read)
-  pub is_facts : IsSetOf fact_cmp load.facts (map (renamed_fact (slice_index ranks)) facts_read)
+  pub is_axioms : IsSetOf axiom_cmp load.axioms (map (renamed_axiom (slice_index ranks)) axioms)
+  pub is_facts : IsSetOf fact_cmp load.facts (map (renamed_fact (slice_index ranks)) triples)
   pub is_asked : asked ≡ renamed_query (slice_index ranks) query_read
-  pub none_skipped : load.skipped ≡ 0
-  -- owl:Nothing is no name of these files
-  pub no_nothing : has_name met owl_nothing ≡ false
-  pub nothing_is : load.nothing ≡ None
+  pub is_nothing : IsNumberOf load.names owl_nothing load.nothing

@@ -1,7 +1,7 @@
 -- The queries that are read so far: one class atom, whose variable is the head. Their grammar is this project's own.
 use Rattle.std.specs.Prelude.{◌≡◌, ◌≢◌, ℕ, Bool, ◌&&◌, ◌||◌, nat_le, ◌==◌, List, [], ◌∷◌, codes, IsTrue}
 use Rattle.std.specs.List.{list_all}
-use Rattle.dl_names.specs.NameList.{Text}
+use Rattle.dl_names.specs.NameList.{Text, names_after, place_of}
 use Rattle.dl_terms.specs.declared.query.Query.{Query}
 use Rattle.dl_run.specs.Members.{members_of}
 use Rattle.dl_run.specs.Tokens.{trimmed, WordThen, NameThen}
@@ -15,10 +15,9 @@ pub record IsVariable (name : Text) : Type 0 where
   pub some : name ≢ []
   pub characters : IsTrue (list_all is_variable_byte name)
 
--- q(?x) :- <A>(?x), with white space between the tokens
-pub record IsQuery (bytes : List ℕ) (names : List Text) (query : Query) (after : List Text) : Type 0 where
+-- q(?x) :- <A>(?x) for this class, with white space between the tokens
+pub record AsksFor (bytes : List ℕ) (class : Text) : Type 0 where
   pub variable : Text
-  pub class : ℕ
   pub opened : List ℕ
   pub head : List ℕ
   pub closed : List ℕ
@@ -34,9 +33,15 @@ pub record IsQuery (bytes : List ℕ) (names : List Text) (query : Query) (after
   pub head_variable : WordThen (63 ∷ variable) head closed
   pub head_close : WordThen (codes ")") closed turned
   pub turnstile : WordThen (codes ":-") turned body
-  pub predicate : NameThen body names class atom after
+  pub predicate : NameThen body class atom
   pub atom_open : WordThen (codes "(") atom term
   pub atom_variable : WordThen (63 ∷ variable) term last
   pub atom_close : WordThen (codes ")") last rest
   pub end : trimmed rest ≡ []
-  pub is : query ≡ members_of class
+
+-- the query by the place of its class, behind these names and with the names after it
+pub record IsQuery (bytes : List ℕ) (names : List Text) (query : Query) (after : List Text) : Type 0 where
+  pub class : Text
+  pub asks : AsksFor bytes class
+  pub named : after ≡ names_after names class
+  pub is : query ≡ members_of (place_of after class)

@@ -1,7 +1,7 @@
 -- What the readers of ontologies and queries read at a time.
 use Rattle.std.specs.Prelude.{◌≡◌, ℕ, Bool, true, not, List, [], ◌∷◌, codes, IsTrue}
 use Rattle.dl_names.specs.NameList.{Text}
-use Rattle.dl_run.specs.Tokens.{WordThen, NameThen}
+use Rattle.dl_run.specs.Tokens.{WordThen, PlaceThen}
 use Rattle.dl_run.specs.Queries.{is_variable_byte, IsVariable}
 
 -- behind the word SubClassOf stand two classes in parentheses, and then the rest
@@ -11,8 +11,8 @@ pub record ClassesThen (bytes : List ℕ) (names : List Text) (sub sup : ℕ) (r
   pub closed : List ℕ
   pub named : List Text
   pub open_parenthesis : WordThen (codes "(") bytes subject
-  pub first : NameThen subject names sub object named
-  pub second : NameThen object named sup closed after
+  pub first : PlaceThen subject names sub object named
+  pub second : PlaceThen object named sup closed after
   pub close_parenthesis : WordThen (codes ")") closed rest
 
 -- no axiom stands next

@@ -1,17 +1,33 @@
 -- What a fault of a file means for the command.
 use Rattle.dl_io.specs.declared.whole.FileFault.{FileFault}
-use Rattle.dl_io.specs.declared.whole.FileFault.TheVariants as files
+use Rattle.dl_io.specs.declared.whole.FileFault.TheVariants as file
+use Rattle.dl_names.specs.declared.fault.NameFault.{NameFault}
+use Rattle.dl_names.specs.declared.fault.NameFault.TheVariants as names
+use Rattle.dl_triples.specs.declared.fault.TripleFault.{TripleFault}
+use Rattle.dl_triples.specs.declared.fault.TripleFault.TheVariants as triples
 use Rattle.dl_run.specs.declared.fault.Fault.{Fault}
-use Rattle.dl_run.specs.declared.fault.Fault.TheVariants as faults
-use Rattle.dl_run.specs.declared.stop.Refusal.TheVariants.{NotBuilt}
+use Rattle.dl_run.specs.declared.fault.Fault.TheVariants as ontology
+use Rattle.dl_run.specs.declared.stop.InputFile.{InputFile}
+use Rattle.dl_run.specs.declared.stop.Refusal.TheVariants as refusal
 use Rattle.dl_run.specs.declared.stop.Stop.{Stop}
-use Rattle.dl_run.specs.declared.stop.Stop.TheVariants as stops
+use Rattle.dl_run.specs.declared.stop.Stop.TheVariants.{Refused, ReadFault, NoMemory}
 
-abbrev pub stop_of_file : FileFault → Stop
-stop_of_file files.Failed = stops.ReadFault
-stop_of_file files.TooLong = stops.Refused NotBuilt
-stop_of_file files.NoMemory = stops.NoMemory
+abbrev pub stop_of_data : TripleFault → Stop
+stop_of_data (triples.Line n) = Refused (refusal.NoTriple n)
+stop_of_data (triples.Blank n) = Refused (refusal.BlankNode n)
+stop_of_data (triples.Reserved n) = Refused (refusal.DataReserved n)
+stop_of_data (triples.TooManyNames n) = Refused refusal.TooManyNames
+stop_of_data triples.NoMemory = NoMemory
 
-abbrev pub stop_of_fault : Fault → Stop
-stop_of_fault faults.NotBuilt = stops.Refused NotBuilt
-stop_of_fault faults.NoMemory = stops.NoMemory
+abbrev pub stop_of_names : NameFault → Stop
+stop_of_names names.Full = Refused refusal.TooManyNames
+stop_of_names names.NoMemory = NoMemory
+
+abbrev pub stop_of_file : InputFile → FileFault → Stop
+stop_of_file which file.Failed = ReadFault
+stop_of_file which file.TooLong = Refused (refusal.TooLong which)
+stop_of_file which file.NoMemory = NoMemory
+
+abbrev pub stop_of_ontology : Fault → Stop
+stop_of_ontology ontology.NotBuilt = Refused refusal.NotBuilt
+stop_of_ontology ontology.NoMemory = NoMemory

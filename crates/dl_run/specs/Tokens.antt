@@ -1,4 +1,4 @@
--- Tokens with white space between them, in ontologies and queries, and names in the order in which they are first met.
+-- Tokens of ontologies and queries, with white space between them.
 use Rattle.std.specs.Prelude.{◌≡◌, ℕ, Bool, ◌||◌, ◌==◌, List, [], ◌∷◌, ◌++◌, if◌then◌else◌}
 use Rattle.dl_names.specs.NameList.{Text, names_after, place_of}
 use Rattle.dl_names.specs.Iris.{IsName}
@@ -16,8 +16,13 @@ trimmed (b ∷ bytes) = if is_blank b then trimmed bytes else b ∷ bytes
 abbrev pub WordThen : List ℕ → List ℕ → List ℕ → Type 0
 WordThen word bytes rest = trimmed bytes ≡ word ++ rest
 
+-- behind white space stands this name in < and >, and then the rest
+pub record NameThen (bytes : List ℕ) (text : Text) (rest : List ℕ) : Type 0 where
+  pub stands : trimmed bytes ≡ 60 ∷ text ++ 62 ∷ rest
+  pub name : IsName text
+
 -- behind white space stands a name in < and >, and then the rest. The name is at this place of the names, which it may be the last of
-pub record NameThen (bytes : List ℕ) (names : List Text) (place : ℕ) (rest : List ℕ) (after : List Text) : Type 0 where
+pub record PlaceThen (bytes : List ℕ) (names : List Text) (place : ℕ) (rest : List ℕ) (after : List Text) : Type 0 where
   pub text : Text
   pub stands : trimmed bytes ≡ 60 ∷ text ++ 62 ∷ rest
   pub name : IsName text

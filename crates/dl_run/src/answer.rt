@@ -1,21 +1,25 @@
 // What the files of `answer` ask, and answers to it.
 ghost use Rattle.std.specs.Prelude.{◌<◌, length};
 ghost use Rattle.std.specs.List.{All};
+ghost use Rattle.dl_terms.specs.Occurring.{axiom_names, fact_names};
 
 use dl_names::Names;
+use dl_terms::{Axiom, Fact, List};
 
-/// What the files of `answer` ask: the pairs of class inclusions and of class facts, over the numbers of names, and the
-/// class whose members are asked for.
+/// What the files of `answer` ask: the sets of axioms and facts over the numbers of names, how many triples were
+/// skipped, the number of `owl:Nothing`, where it is a name, and the class whose members are asked for.
 #[derive(Drop)]
 pub(crate) struct Asked {
     pub names: Names,
-    pub inclusions: Vec<(u32, u32)>,
-    pub facts: Vec<(u32, u32)>,
+    pub axioms: List<Axiom>,
+    pub facts: List<Fact>,
+    pub skipped: u64,
+    pub nothing: Option<u32>,
     pub class: u32,
     ghost class_named: { class < length names },
-    ghost inclusions_named: { All (λ e.
-        (e.0 < length names) × (e.1 < length names)) inclusions.items },
-    ghost facts_named: { All (λ f. (f.0 < length names) × (f.1 < length names)) facts.items },
+    ghost axioms_named: { All (λ a.
+        All (λ name. name < length names) (axiom_names a)) axioms },
+    ghost facts_named: { All (λ fact. All (λ name. name < length names) (fact_names fact)) facts },
 }
 
 /// Answers as numbers, with their names, how many facts there are and how many triples were skipped:

@@ -7,7 +7,8 @@ ghost use Rattle.dl_run.specs.Marking.{IsMarked, Marks};
 
 use std::alloc::{AllocError, Global};
 
-/// Marks the classes from which a chain of inclusions leads to a class, which is one of them. An inclusion has the class that is below first.
+/// Marks the classes from which a chain of inclusions leads to a class, which is one of them. An inclusion has the
+/// class that is below first.
 pub(crate) fn classes_below(
     alloc: Global,
     inclusions: &[(u32, u32)],

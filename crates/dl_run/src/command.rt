@@ -1,11 +1,14 @@
 // The command `answer` and the program: words, files and what is written.
-ghost use Rattle.std.specs.Prelude.{◌≡◌, ◌≤◌, ◌⊎◌, ◌∷◌, [], ℕ, map, OnOk, OnErr, List, string_bytes};
+ghost use Rattle.std.specs.Prelude.{◌≡◌, ◌≤◌, ◌⊎◌, ◌∷◌, [], ℕ, map, length, OnOk, OnErr, IfOk, IfErr, IfSome, List, string_bytes};
 ghost use Rattle.std.specs.List.{Contains};
 ghost use Rattle.dl_io.specs.Count.{HasRisen, NoneFalls};
+ghost use Rattle.dl_io.specs.Files.{max_bytes};
 ghost use Rattle.dl_io.specs.Writing.{Gets, GetsPrefix};
 ghost use Rattle.dl_run.specs.Answered.{status_of, text_of};
 ghost use Rattle.dl_run.specs.Defined.{AnswerOf, Prints};
 ghost use Rattle.dl_run.specs.Ending.{Says, Printed, Ends};
+ghost use Rattle.dl_run.specs.Files.{IsFileStop};
+ghost use Rattle.dl_run.specs.Stops.{stop_of_file};
 ghost use Rattle.dl_run.specs.Texts.{usage_text, no_memory_text};
 ghost use Rattle.dl_run.specs.Words.{HasSomeForm, HasNoForm, AskFor};
 
@@ -14,10 +17,10 @@ use crate::input::input_of;
 use crate::output::print_output;
 use crate::replies::answers_for;
 use crate::status::Status;
-use crate::stop::Stop;
+use crate::stop::{InputFile, Refusal, Stop};
 use crate::texts::{NO_MEMORY, USAGE};
 use crate::words::{AnswerWords, Form, form_of};
-use dl_io::{Failed, GATHERED, GatheringSink, Library, Sink, read_whole, write_all};
+use dl_io::{Failed, FileFault, GATHERED, GatheringSink, Library, Sink, read_whole, write_all};
 use std::alloc::Global;
 
 /// The answers of `answer` for its three files, which are read whole, in the order of the words. All
@@ -39,9 +42,9 @@ fn answers_of<L: Library>(
     ensures unchanged { L.told files.new ≡ L.told files.old }
     ensures count { NoneFalls (L.faults files.old) (L.faults files.new) }
 {
-    let ontology = read_whole(alloc, files, words.ontology)?;
-    let facts = read_whole(alloc, files, words.facts)?;
-    let query = read_whole(alloc, files, words.query)?;
+    let ontology = read_file(alloc, files, words.ontology, InputFile::Ontology)?;
+    let facts = read_file(alloc, files, words.facts, InputFile::Data)?;
+    let query = read_file(alloc, files, words.query, InputFile::Query)?;
     let asked = input_of(
         alloc,
         ontology.as_slice(),
@@ -50,6 +53,38 @@ fn answers_of<L: Library>(
     )?;
     gathered.reserve(GATHERED)?;
     answers_for(alloc, asked, words.limit)
+}
+
+/// The bytes of a file of the input, or why there are none.
+fn read_file<L: Library>(
+    alloc: Global,
+    files: &mut L,
+    name: &str,
+    file: InputFile,
+) -> Result<Vec<u8>, Stop>
+    ensures whole { IfOk result (λ bytes.
+        IfSome (L.told files.old) (λ file_of. bytes.items ≡ file_of name.now)) }
+    ensures fits { IfOk result (λ bytes. length bytes.items ≤ max_bytes) }
+    ensures stop { IfErr result (IsFileStop file (L.told files.old) name.now
+        (HasRisen (L.faults files.old name.now) (L.faults files.new name.now))) }
+    ensures unchanged { L.told files.new ≡ L.told files.old }
+    ensures count { NoneFalls (L.faults files.old) (L.faults files.new) }
+{
+    match read_whole(alloc, files, name) {
+        Ok(bytes) => Ok(bytes),
+        Err(fault) => Err(stop_of_file(file, fault)),
+    }
+}
+
+/// What a fault of a file means for the command.
+fn stop_of_file(file: InputFile, fault: FileFault) -> Stop
+    ensures { result ≡ stop_of_file file fault }
+{
+    match fault {
+        FileFault::Failed => Stop::ReadFault,
+        FileFault::TooLong => Stop::Refused(Refusal::TooLong { file }),
+        FileFault::NoMemory => Stop::NoMemory,
+    }
 }
 
 /// The status of answers, or of what stands in their place.
@@ -113,7 +148,7 @@ fn write_text<S: Sink>(sink: &mut S, status: Status, text: &str) -> Status
 
 /// The command `answer`: writes the certain answers to a query over an ontology and facts, or why
 /// there are none, and says how that ended. The three names are those of files, which are read whole,
-/// in the order of the words, before any is tested for its form. `limit` is the most answers that are
+/// in the order of the words, before any is read for faults. `limit` is the most answers that are
 /// written. `Usage` never comes, and `NoMemory` may come at any time. Where the library doesn't tell
 /// its files, nothing is said of the texts of `Done` and `Refused`. `WriteFault` overrides every other
 /// status.

@@ -4,20 +4,24 @@
 mod answer;
 mod chain;
 mod command;
-mod data;
 mod fault;
+mod inclusions;
 mod input;
+mod laws;
 mod members;
 mod ontology;
 mod output;
 mod question;
 mod ranked;
+mod refusals;
 mod replies;
 mod scan;
+mod sets;
 mod status;
 mod stop;
 mod texts;
 mod words;
 
 pub use command::{answer_command, quest, without_memory};
+pub use laws::outputs_are_determined;
 pub use status::Status;

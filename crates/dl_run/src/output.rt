@@ -6,9 +6,11 @@ ghost use Rattle.dl_io.specs.Gathering.{Takes, TakesPrefix, state_of};
 ghost use Rattle.dl_run.specs.Answered.{text_of, text_of_answers};
 ghost use Rattle.dl_run.specs.Members.{singles};
 ghost use Rattle.dl_run.specs.Output.{tuple_line};
+ghost use Rattle.dl_run.specs.Pieces.{digits_of};
 ghost use Rattle.dl_run.specs.Refusals.{refusal_text};
 
 use crate::answer::Answers;
+use crate::refusals::words_of;
 use crate::stop::{Refusal, Stop};
 use crate::texts::{NO_MEMORY, READ_FAULT};
 use dl_io::{Failed, GatheringSink, Sink};
@@ -67,13 +69,22 @@ fn put_refusal<S: Sink>(out: &mut GatheringSink<'_, S>, refusal: Refusal) -> Res
     ensures failed { OnErr result
         (HasRisen (S.faults out.old.sink.now) (S.faults out.new.sink.now)) }
 {
-    match refusal {
-        Refusal::NotBuilt => put_all(out, &["refused: ", "not built", "\n"]),
-        Refusal::TooMany { limit } => {
-            let mut digits = Buffer::new();
-            let limit = digits.format(limit);
-            put_all(out, &["refused: ", "more than ", limit, " answers", "\n"])
-        }
+    let words = words_of(refusal);
+    let mut buffer = Buffer::new();
+    let number = digits_of(&mut buffer, words.number);
+    put_all(
+        out,
+        &["refused: ", words.before, number, words.behind, "\n"],
+    )
+}
+
+/// The digits of a number, where there is one.
+fn digits_of(buffer: &mut Buffer, number: Option<u64>) -> &str
+    ensures { result.now ≡ digits_of number }
+{
+    match number {
+        Some(number) => buffer.format(number),
+        None => "",
     }
 }
 

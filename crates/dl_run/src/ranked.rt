@@ -1,12 +1,9 @@
 // Places of names replaced by their ranks.
 ghost use Rattle.std.specs.Prelude.{◌≡◌, ◌<◌, length, map};
 ghost use Rattle.std.specs.List.{All};
-ghost use Rattle.dl_terms.specs.Sets.{IsSetOf};
-ghost use Rattle.dl_run.specs.Numbered.{pair_cmp};
 ghost use Rattle.dl_run.specs.Ranked.{ranked_pair};
 
 use dl_names::Ranks;
-use dl_terms::{List, set_of};
 
 /// Replaces the two places of each pair by their ranks.
 pub(crate) fn rank_pairs(ranks: &Ranks, pairs: &mut [(u32, u32)])
@@ -17,14 +14,4 @@ pub(crate) fn rank_pairs(ranks: &Ranks, pairs: &mut [(u32, u32)])
         let (first, second) = *pair;
         *pair = (ranks.of(first), ranks.of(second));
     }
-}
-
-/// The set of pairs of ranks that pairs of places stand for.
-pub(crate) fn ranked_set(ranks: &Ranks, pairs: Vec<(u32, u32)>) -> Vec<(u32, u32)>
-    requires { All (λ p. (p.0 < length ranks.now) × (p.1 < length ranks.now)) pairs.items }
-    ensures { IsSetOf pair_cmp result.items (map (ranked_pair ranks.now) pairs.items) }
-{
-    let mut pairs = pairs;
-    rank_pairs(ranks, pairs.as_mut_slice());
-    set_of(List::of(pairs)).into_vec()
 }

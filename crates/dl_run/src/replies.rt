@@ -1,7 +1,8 @@
 // The answers to what the files of `answer` ask.
+ghost use Rattle.std.specs.Prelude.{◌≡◌, true};
 ghost use Rattle.dl_run.specs.Answered.{RepliesTo};
-ghost use Rattle.dl_run.specs.Asked.{load_of};
-ghost use Rattle.dl_run.specs.Members.{members_of};
+ghost use Rattle.dl_run.specs.Asked.{load_of, query_of};
+ghost use Rattle.dl_run.specs.Served.{is_served};
 
 use crate::answer::{Answers, Asked};
 use crate::members::members;
@@ -10,12 +11,12 @@ use std::alloc::Global;
 
 /// The answers to what is asked, unless they are more than the limit.
 pub(crate) fn answers_for(alloc: Global, asked: Asked, limit: u64) -> Result<Answers, Stop>
-    ensures { RepliesTo (load_of asked.names asked.inclusions.items asked.facts.items)
-        (members_of asked.class) limit result }
+    requires { is_served (load_of asked) ≡ true }
+    ensures { RepliesTo (load_of asked) (query_of asked) limit result }
 {
     let found = members(
         alloc,
-        asked.inclusions.as_slice(),
+        asked.axioms.as_slice(),
         asked.facts.as_slice(),
         asked.class,
         asked.names.len(),
@@ -26,7 +27,7 @@ pub(crate) fn answers_for(alloc: Global, asked: Asked, limit: u64) -> Result<Ans
     Ok(Answers {
         names: asked.names,
         facts: asked.facts.len(),
-        skipped: 0,
+        skipped: asked.skipped,
         found,
     })
 }

@@ -1,9 +1,8 @@
-// Reading tokens from the front of bytes: words, and names in < and >, with white space before them.
-ghost use Rattle.std.specs.Prelude.{◌≡◌, ◌≤◌, ◌<◌, ◌∷◌, ◌++◌, ℕ, List, [], length, IfOk, IfErr, OnOk, OnErr, IfSome, IfNone, IsTrue, not, position};
-ghost use Rattle.std.specs.List.{list_all};
+// Reading the tokens of ontologies and queries from the front of bytes: words, and names in < and >, with white space before them.
+ghost use Rattle.std.specs.Prelude.{◌≡◌, ◌≤◌, ◌<◌, ◌∷◌, ◌++◌, ℕ, List, [], length, IfOk, IfErr, OnOk, OnErr, IfSome, IfNone, not, position};
 ghost use Rattle.dl_names.specs.NameList.{Text, max_names};
 ghost use Rattle.dl_names.specs.Iris.{is_iri_byte, IsName};
-ghost use Rattle.dl_run.specs.Tokens.{is_blank, trimmed, WordThen, NameThen};
+ghost use Rattle.dl_run.specs.Tokens.{is_blank, trimmed, WordThen, NameThen, PlaceThen};
 
 use crate::fault::Fault;
 use dl_names::{NameSet, is_iri_byte, name_of};
@@ -51,7 +50,7 @@ pub(crate) fn nothing_then(bytes: &[u8]) -> Result<(), Fault>
 }
 
 /// The IRI of a name up to the `>` that closes it, and what stands behind that.
-pub(crate) fn iri_then(bytes: &[u8]) -> Option<(&str, &[u8])>
+fn iri_then(bytes: &[u8]) -> Option<(&str, &[u8])>
     ensures found { IfSome result (λ found.
         (bytes.now ≡ found.0.now ++ 62 ∷ found.1.now) × IsName found.0.now) }
     ensures none { IfNone result ((text rest : List ℕ) →
@@ -66,11 +65,9 @@ pub(crate) fn iri_then(bytes: &[u8]) -> Option<(&str, &[u8])>
 }
 
 /// The next name, which stands in `<` and `>` and before which white space may stand, and what stands behind it.
-fn name_then(bytes: &[u8]) -> Option<(&str, &[u8])>
-    ensures found { IfSome result (λ found.
-        (trimmed bytes.now ≡ 60 ∷ found.0.now ++ 62 ∷ found.1.now) × IsName found.0.now) }
-    ensures none { IfNone result ((text rest : List ℕ) →
-        trimmed bytes.now ≡ 60 ∷ text ++ 62 ∷ rest → IsName text → ⊥) }
+pub(crate) fn name_then(bytes: &[u8]) -> Option<(&str, &[u8])>
+    ensures found { IfSome result (λ found. NameThen bytes.now found.0.now found.1.now) }
+    ensures none { IfNone result ((text : Text) (rest : List ℕ) → NameThen bytes.now text rest → ⊥) }
 {
     iri_then(after_word(bytes, b"<")?)
 }
@@ -80,11 +77,11 @@ pub(crate) fn place_of_next<'a>(
     bytes: &'a [u8],
     names: &mut NameSet,
 ) -> Result<(u32, &'a [u8]), Fault>
-    ensures ok { IfOk result (λ found. NameThen bytes.now names.old found.0 found.1.now names.new) }
+    ensures ok { IfOk result (λ found. PlaceThen bytes.now names.old found.0 found.1.now names.new) }
     ensures within { IfOk result (λ found. found.0 < length names.new) }
     ensures not_built { (result ≡ Err Fault.NotBuilt) →
         (place : ℕ) (rest : List ℕ) (after : List Text) →
-        NameThen bytes.now names.old place rest after → length after ≤ max_names → ⊥ }
+        PlaceThen bytes.now names.old place rest after → length after ≤ max_names → ⊥ }
 {
     let Some((text, rest)) = name_then(bytes) else {
         return Err(Fault::NotBuilt);

@@ -1,16 +1,35 @@
 // Why a command ends before it has answers.
 ghost use Rattle.std.specs.Prelude.{◌≡◌};
-ghost use Rattle.dl_run.specs.Stops.{stop_of_file, stop_of_fault};
+ghost use Rattle.dl_run.specs.Stops.{stop_of_ontology, stop_of_data, stop_of_names};
 ghost use Rattle.dl_run.specs.declared.stop.Stop.TheVariants.{NoMemory};
 
 use crate::fault::Fault;
-use dl_io::FileFault;
+use dl_names::NameFault;
+use dl_triples::TripleFault;
 use std::alloc::AllocError;
 
-/// Why an input is refused.
+/// The files of an input.
+#[derive(Clone, Copy)]
+pub(crate) enum InputFile {
+    Ontology,
+    Data,
+    Query,
+}
+
+/// Why an input is refused. Lines are counted from 1.
 #[derive(Clone, Copy)]
 pub(crate) enum Refusal {
-    /// The files give no input of the forms that are read so far.
+    /// A file is too long.
+    TooLong { file: InputFile },
+    /// A line of the data that is no triple.
+    NoTriple { line: u64 },
+    /// A line of the data with a blank node.
+    BlankNode { line: u64 },
+    /// A line of the data with a reserved name.
+    DataReserved { line: u64 },
+    /// A name that has no place any more.
+    TooManyNames,
+    /// The files give an input that isn't built yet.
     NotBuilt,
     /// There are more answers than the limit.
     TooMany { limit: u64 },
@@ -27,26 +46,47 @@ pub(crate) enum Stop {
     NoMemory,
 }
 
-impl From<FileFault> for Stop {
-    ghost from_gives = { λ fault made. made ≡ stop_of_file fault };
-
-    fn from(fault: FileFault) -> Stop {
-        match fault {
-            FileFault::Failed => Stop::ReadFault,
-            FileFault::TooLong => Stop::Refused(Refusal::NotBuilt),
-            FileFault::NoMemory => Stop::NoMemory,
-        }
-    }
-}
-
 impl From<Fault> for Stop {
-    ghost from_gives = { λ fault made. made ≡ stop_of_fault fault };
+    ghost from_gives = { λ fault made. made ≡ stop_of_ontology fault };
 
     fn from(fault: Fault) -> Stop {
         match fault {
             Fault::NotBuilt => Stop::Refused(Refusal::NotBuilt),
             Fault::NoMemory => Stop::NoMemory,
         }
+    }
+}
+
+impl From<TripleFault> for Stop {
+    ghost from_gives = { λ fault made. made ≡ stop_of_data fault };
+
+    fn from(fault: TripleFault) -> Stop {
+        Stop::Refused(match fault {
+            TripleFault::Line { n } => Refusal::NoTriple { line: n },
+            TripleFault::Blank { n } => Refusal::BlankNode { line: n },
+            TripleFault::Reserved { n } => Refusal::DataReserved { line: n },
+            TripleFault::TooManyNames { .. } => Refusal::TooManyNames,
+            TripleFault::NoMemory => return Stop::NoMemory,
+        })
+    }
+}
+
+impl From<NameFault> for Stop {
+    ghost from_gives = { λ fault made. made ≡ stop_of_names fault };
+
+    fn from(fault: NameFault) -> Stop {
+        match fault {
+            NameFault::Full => Stop::Refused(Refusal::TooManyNames),
+            NameFault::NoMemory => Stop::NoMemory,
+        }
+    }
+}
+
+impl From<dl_terms::NoMemory> for Stop {
+    ghost from_gives = { λ _ made. made ≡ NoMemory };
+
+    fn from(_refused: dl_terms::NoMemory) -> Stop {
+        Stop::NoMemory
     }
 }
 

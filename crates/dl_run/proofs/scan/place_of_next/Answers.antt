@@ -10,5 +10,5 @@ returns-in_err-place-clause-not_built c =
     let p = err_from_is_err_and c.from_residual.result c.from_residual.ensures.1 in
     rw p.1 (λ h place rest after next fits.
     let full = (c.in_err-place.ensures.full).0 (ap Err (full_fault c.in_err-place.field-0.0 (cc (p.2, h)))) in
-    let one = name_one c.args.bytes.now next.text c.in-Some.text.now rest c.in-Some.rest.now next.stands next.name c.in-Some.ensures.found.0 c.in-Some.ensures.found.1 in
+    let one = name_one c.args.bytes.now next.text c.in-Some.text.now rest c.in-Some.rest.now next.stands next.name c.in-Some.ensures.found.stands c.in-Some.ensures.found.name in
     no_room c.args.names.now c.in-Some.text.now after max_names full.0 full.1 (next.named ∙ ap (names_after c.args.names.now) one.0) fits)
