@@ -94,6 +94,22 @@ const DISJOINT: Example = Example {
     output: "refused: not built\n",
 };
 
+const LITERAL_SKIPPED: Example = Example {
+    words: ANSWER,
+    files: &[
+        ("ontology.ofn", "Ontology()"),
+        (
+            "data.nt",
+            "<a> <http://www.w3.org/1999/02/22-rdf-syntax-ns#type> <A> .
+<a> <P> \"x\"@en .
+",
+        ),
+        ("query.q", "q(?x) :- <A>(?x)"),
+    ],
+    status: Status::Done,
+    output: "facts 1 skipped 1\nanswers 1\n(<a>)\n",
+};
+
 const NO_WORDS: Example = Example {
     words: &[],
     files: &[],
@@ -208,6 +224,7 @@ const EXAMPLES: &[&Example] = &[
     &SUBCLASS_CYCLE,
     &NOTHING_LOADED,
     &DISJOINT,
+    &LITERAL_SKIPPED,
     &NO_WORDS,
     &LIMIT_ZERO,
     &GEN_WITHOUT_SIZE,
@@ -241,6 +258,82 @@ fn worked_examples(rt: HostRuntime) -> Result<(), Fail> {
 #[test]
 fn worked_examples_by_single_bytes(rt: HostRuntime) -> Result<(), Fail> {
     assert!(rt; all_end_by_bytes(rt.alloc(), EXAMPLES)?);
+    Ok(())
+}
+
+/// A refusal: an ontology, data and a query, and what is said of them.
+type Refused = (&'static str, &'static str, &'static str, &'static str);
+
+const NO_DATA: &str = "";
+
+const MEMBERS_OF_A: &str = "q(?x) :- <A>(?x)";
+
+/// Each refusal of the files, and which of two is the first.
+const REFUSALS: &[Refused] = &[
+    (
+        "Ontology()",
+        "\n<a> <P> <b\n",
+        MEMBERS_OF_A,
+        "refused: data line 2: not a triple\n",
+    ),
+    (
+        "Ontology()",
+        "_:b <P> <a> .\n",
+        MEMBERS_OF_A,
+        "refused: data line 1: blank node\n",
+    ),
+    (
+        "Ontology()",
+        "<a> <http://www.w3.org/2002/07/owl#sameAs> <b> .",
+        MEMBERS_OF_A,
+        "refused: data line 1: reserved name\n",
+    ),
+    // The first of two faults, and what isn't built of the ontology before the data, and the data before the query.
+    (
+        "Ontology()",
+        "<a> <P> <b\n_:b <P> <a> .\n",
+        "q",
+        "refused: data line 1: not a triple\n",
+    ),
+    (
+        "Ontology(DisjointClasses(<A> <B>))",
+        "_:b <P> <a> .\n",
+        MEMBERS_OF_A,
+        "refused: not built\n",
+    ),
+    // What isn't built: another query, and owl:Nothing as a name.
+    (
+        "Ontology()",
+        NO_DATA,
+        "q(?x, ?y) :- <P>(?x, ?y)",
+        "refused: not built\n",
+    ),
+    (
+        "Ontology()",
+        "<a> <http://www.w3.org/1999/02/22-rdf-syntax-ns#type> <http://www.w3.org/2002/07/owl#Nothing> .",
+        MEMBERS_OF_A,
+        "refused: not built\n",
+    ),
+];
+
+/// Whether each is refused as it says.
+fn all_refused(alloc: Global, rows: &[Refused]) -> Result<bool, AllocError> {
+    for (ontology, facts, query, text) in rows {
+        let files = [
+            ("ontology.ofn", *ontology),
+            ("data.nt", *facts),
+            ("query.q", *query),
+        ];
+        if !ends_over(alloc, &files, ANSWER, Status::Refused, text)? {
+            return Ok(false);
+        }
+    }
+    Ok(true)
+}
+
+#[test]
+fn refusals_name_the_first_thing_that_is_wrong(rt: HostRuntime) -> Result<(), Fail> {
+    assert!(rt; all_refused(rt.alloc(), REFUSALS)?);
     Ok(())
 }
 
