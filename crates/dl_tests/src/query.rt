@@ -1,6 +1,6 @@
 use dl_names::NameSet;
-use dl_query::{QueryFault, ranked, read_query};
-use dl_terms::{Atom, NoMemory, Query, Term};
+use dl_query::{QueryFault, read_query};
+use dl_terms::{Atom, Query, Term};
 use std::alloc::{AllocError, Global};
 use std::test::Fail;
 
@@ -240,10 +240,18 @@ const FAULTS: &[(&str, QueryFault)] = &[
     ),
 ];
 
+/// Whether the name has this place.
+fn is_at(names: &mut NameSet, text: &str, place: usize) -> bool {
+    match names.add(text) {
+        Ok(found) => found as usize == place,
+        Err(_) => false,
+    }
+}
+
 /// Whether each name has its place.
 fn are_names(names: &mut NameSet, wanted: &[&str]) -> bool {
     for (place, text) in wanted.iter().enumerate() {
-        if names.add(*text) != Ok(place as u32) {
+        if !is_at(names, text, place) {
             return false;
         }
     }
@@ -328,7 +336,7 @@ fn is_counted(alloc: Global, atoms: u32) -> Result<bool, AllocError> {
     let text = wide(alloc, atoms)?;
     let fault = QueryFault::TooLarge {
         atoms: u64::from(atoms),
-        existential: 2 * u64::from(atoms) - 1,
+        existential: (2 * u64::from(atoms)).saturating_sub(1),
         head: 0,
     };
     Ok(fails(alloc, text.as_bytes(), fault))
@@ -338,31 +346,4 @@ fn is_counted(alloc: Global, atoms: u32) -> Result<bool, AllocError> {
 fn a_query_of_many_atoms_is_counted(rt: HostRuntime) -> Result<(), Fail> {
     assert!(rt; is_counted(rt.alloc(), 1000)?);
     Ok(())
-}
-
-/// Whether the places of a query become ranks. The names are met as b, C and a; in byte order they are C, a and b.
-fn is_ranked(alloc: Global) -> Result<bool, NoMemory> {
-    let mut names = NameSet::new(alloc);
-    let Ok(mut query) = read_query(alloc, b"q(?x) :- <b>(<C>, ?x), <a>(<b>)", &mut names) else {
-        return Ok(false);
-    };
-    let (_, ranks) = names.freeze()?;
-    ranked(&mut query, &ranks);
-    let atoms: &[Atom] = &[
-        Atom::Link {
-            role: 2,
-            from: Term::Name(0),
-            to: X,
-        },
-        Atom::Is {
-            class: 1,
-            at: Term::Name(2),
-        },
-    ];
-    Ok(query.atoms.as_slice() == atoms)
-}
-
-#[test]
-fn places_become_ranks(rt: HostRuntime) {
-    assert!(rt; is_ranked(rt.alloc()) == Ok(true));
 }
