@@ -15,21 +15,37 @@ type Atom = (Term, Option<Term>, &'static [Pair]);
 type Row = (&'static [Term], &'static [Atom], &'static [&'static [u32]]);
 
 const X: Term = Term::Var(0);
+
 const Y: Term = Term::Var(1);
+
 const Z: Term = Term::Var(2);
+
 const W: Term = Term::Var(3);
+
 const ONE: Term = Term::Name(1);
+
 const THREE: Term = Term::Name(3);
+
 const FOUR: Term = Term::Name(4);
 
 const CHAIN: &[Pair] = &[(1, 2), (1, 3), (2, 3), (3, 4)];
+
 const LOOPS: &[Pair] = &[(1, 1), (1, 2), (2, 1), (3, 3)];
+
 const CLASS: &[Pair] = &[(2, 2), (3, 3), (7, 7)];
 
 const ROWS: &[Row] = &[
     // One role: its head as it stands, turned, and one of its ends.
-    (&[X, Y], &[(X, Some(Y), CHAIN)], &[&[1, 2], &[1, 3], &[2, 3], &[3, 4]]),
-    (&[Y, X], &[(X, Some(Y), CHAIN)], &[&[2, 1], &[3, 1], &[3, 2], &[4, 3]]),
+    (
+        &[X, Y],
+        &[(X, Some(Y), CHAIN)],
+        &[&[1, 2], &[1, 3], &[2, 3], &[3, 4]],
+    ),
+    (
+        &[Y, X],
+        &[(X, Some(Y), CHAIN)],
+        &[&[2, 1], &[3, 1], &[3, 2], &[4, 3]],
+    ),
     (&[Y], &[(X, Some(Y), CHAIN)], &[&[2], &[3], &[4]]),
     // A path of two: whole, its ends, and its middle.
     (
@@ -42,16 +58,28 @@ const ROWS: &[Row] = &[
         &[(X, Some(Y), CHAIN), (Y, Some(Z), CHAIN)],
         &[&[1, 3], &[1, 4], &[2, 4]],
     ),
-    (&[Y], &[(X, Some(Y), CHAIN), (Y, Some(Z), CHAIN)], &[&[2], &[3]]),
+    (
+        &[Y],
+        &[(X, Some(Y), CHAIN), (Y, Some(Z), CHAIN)],
+        &[&[2], &[3]],
+    ),
     // A triangle, and none where its last side is turned.
     (
         &[X, Y, Z],
-        &[(X, Some(Y), CHAIN), (Y, Some(Z), CHAIN), (X, Some(Z), CHAIN)],
+        &[
+            (X, Some(Y), CHAIN),
+            (Y, Some(Z), CHAIN),
+            (X, Some(Z), CHAIN),
+        ],
         &[&[1, 2, 3]],
     ),
     (
         &[X, Y, Z],
-        &[(X, Some(Y), CHAIN), (Y, Some(Z), CHAIN), (Z, Some(X), CHAIN)],
+        &[
+            (X, Some(Y), CHAIN),
+            (Y, Some(Z), CHAIN),
+            (Z, Some(X), CHAIN),
+        ],
         &[],
     ),
     // A variable twice in one probe, and two probes over one pair.
@@ -62,14 +90,30 @@ const ROWS: &[Row] = &[
         &[&[1, 1], &[1, 2], &[2, 1], &[3, 3]],
     ),
     // A class, and names behind and in front of a role and in the head.
-    (&[X, Y], &[(X, Some(Y), CHAIN), (Y, None, CLASS)], &[&[1, 2], &[1, 3], &[2, 3]]),
+    (
+        &[X, Y],
+        &[(X, Some(Y), CHAIN), (Y, None, CLASS)],
+        &[&[1, 2], &[1, 3], &[2, 3]],
+    ),
     (&[X], &[(X, Some(FOUR), CHAIN)], &[&[3]]),
-    (&[FOUR, X, FOUR], &[(ONE, Some(X), CHAIN)], &[&[4, 2, 4], &[4, 3, 4]]),
+    (
+        &[FOUR, X, FOUR],
+        &[(ONE, Some(X), CHAIN)],
+        &[&[4, 2, 4], &[4, 3, 4]],
+    ),
     // Probes without variables, of which one fails, and an empty head.
-    (&[], &[(THREE, Some(FOUR), CHAIN), (Term::Name(7), None, CLASS)], &[&[]]),
+    (
+        &[],
+        &[(THREE, Some(FOUR), CHAIN), (Term::Name(7), None, CLASS)],
+        &[&[]],
+    ),
     (&[X], &[(X, None, CLASS), (FOUR, None, CLASS)], &[]),
     // Two parts that share nothing.
-    (&[W, X], &[(X, Some(FOUR), CHAIN), (W, None, CLASS)], &[&[2, 3], &[3, 3], &[7, 3]]),
+    (
+        &[W, X],
+        &[(X, Some(FOUR), CHAIN), (W, None, CLASS)],
+        &[&[2, 3], &[3, 3], &[7, 3]],
+    ),
 ];
 
 /// The sorted list of pairs.
@@ -237,7 +281,15 @@ fn tuples_of(alloc: Global, disjunct: &Disjunct, pairs: &[Pair]) -> Result<Optio
 }
 
 /// The pairs of both lists of pairs, each once.
-const UNION: &[&[u32]] = &[&[1, 1], &[1, 2], &[1, 3], &[2, 1], &[2, 3], &[3, 3], &[3, 4]];
+const UNION: &[&[u32]] = &[
+    &[1, 1],
+    &[1, 2],
+    &[1, 3],
+    &[2, 1],
+    &[2, 3],
+    &[3, 3],
+    &[3, 4],
+];
 
 /// True where the union of two answers has the tuples of both, each once, and one less is refused.
 fn is_the_union(alloc: Global) -> Result<bool, NoMemory> {
@@ -330,7 +382,12 @@ fn place_of(tuples: &Tuples, head: &[Term], names: &[u32]) -> Option<u64> {
 }
 
 /// True where the tuples are those that some of the names below 5 give: each is found, and none else is there.
-fn are_all(alloc: Global, disjunct: &Disjunct, lists: &[List<Pair>], tuples: &Tuples) -> Result<bool, NoMemory> {
+fn are_all(
+    alloc: Global,
+    disjunct: &Disjunct,
+    lists: &[List<Pair>],
+    tuples: &Tuples,
+) -> Result<bool, NoMemory> {
     let mut found = Vec::new(alloc);
     for n in 0..125u32 {
         let names = [n % 5, n / 5 % 5, n / 25];
@@ -394,7 +451,11 @@ fn add_probes(
         state = next(state);
         let at = term_of(state);
         state = next(state);
-        let to = if state >> 62 == 0 { None } else { Some(term_of(state)) };
+        let to = if state >> 62 == 0 {
+            None
+        } else {
+            Some(term_of(state))
+        };
         probes.push(probe_of(alloc, at, to))?;
         let mut pairs = Vec::new(alloc);
         state = next(state);
