@@ -6,8 +6,8 @@ use Rattle.dl_run.specs.declared.status.Status.{Status}
 use Rattle.dl_run.specs.declared.status.Status.TheVariants.{Done, Usage, Refused, ReadFault, WriteFault, NoMemory}
 use Rattle.dl_run.specs.Texts.{read_fault_text, no_memory_text}
 
--- What is seen of a run: its status, and before and after it what the library tells of its files, the counts of faults of
--- its names, what the sink got, where it tells it, and its count of faults.
+-- What is seen of a run: its status, and before and after it what the library tells of its files, the counts of
+-- faults of its names, what the sink got, where it tells it, and its count of faults.
 pub record Run : Type 0 where
   pub status : Status
   pub told_before : Option (List ℕ → List ℕ)
@@ -51,7 +51,8 @@ module _ (Prints : (List ℕ → List ℕ) → Status → List ℕ → Type 0) (
   -- where the library tells its files, the sink got a text that is printed with this status
   abbrev pub Wrote : Status → Type 0
   Wrote status =
-      IfSome run.told_before (λ file_of. (text : List ℕ) × Prints file_of status text × Gets run.got_before run.got text)
+      IfSome run.told_before (λ file_of.
+      (text : List ℕ) × Prints file_of status text × Gets run.got_before run.got text)
 
   -- the sink got a prefix of a text that goes with some status
   abbrev pub WrotePart : Type 0
@@ -59,7 +60,8 @@ module _ (Prints : (List ℕ → List ℕ) → Status → List ℕ → Type 0) (
       (status : Status) × (text : List ℕ) × Says Prints run.told_before (HasReadFault Asks run) status text
       × GetsPrefix run.got_before run.got text
 
-  -- where the library tells its files and no fault is counted, the status is that which is printed, or there was no memory
+  -- where the library tells its files and no fault is counted, the status is that which is printed, or there was no
+  -- memory
   abbrev pub IsComplete : Type 0
   IsComplete = IfSome run.told_before (λ file_of. (status : Status) (text : List ℕ) → Prints file_of status text
       → (HasReadFault Asks run → ⊥) → (HasWriteFault run → ⊥) → (run.status ≡ status) ⊎ (run.status ≡ NoMemory))

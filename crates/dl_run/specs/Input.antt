@@ -48,8 +48,8 @@ pub record IsFittingOntology (bytes : List ℕ) (axioms : List Axiom) (names : L
   pub is_ontology : IsOntology bytes [] axioms names
   pub names_fit : length names ≤ max_names
 
--- no file is too long, the ontology is of the form that is read so far, and the data has no fault: the axioms, the facts
--- of the data, how many triples are skipped, and the names, each at its place by first occurrence
+-- no file is too long, the ontology is of the form that is read so far, and the data has no fault: the axioms, the
+-- facts of the data, how many triples are skipped, and the names, each at its place by first occurrence
 pub record AreRead (ontology facts query : List ℕ) (axioms : List Axiom) (triples : List Fact) (skipped : ℕ)
     (names : List Text) : Type 0 where
   pub fit : AllFit ontology facts query

@@ -8,9 +8,11 @@ use Rattle.dl_run.specs.Tokens.{trimmed, WordThen, PlaceThen}
 -- these axioms stand next, and then the rest; their names are places in the names after them
 pub data AxiomsThen : List ℕ → List Text → List Axiom → List ℕ → List Text → Type 0 where
   none : {bytes : List ℕ} {names : List Text} → AxiomsThen bytes names [] bytes names
-  one : {bytes opened subject object closed next rest : List ℕ} {names named both after : List Text} {sub sup : ℕ} {axioms : List Axiom}
-      → WordThen (codes "SubClassOf") bytes opened → WordThen (codes "(") opened subject → PlaceThen subject names sub object named
-      → PlaceThen object named sup closed both → WordThen (codes ")") closed next → AxiomsThen next both axioms rest after
+  one : {bytes opened subject object closed next rest : List ℕ} {names named both after : List Text} {sub sup : ℕ}
+      {axioms : List Axiom}
+      → WordThen (codes "SubClassOf") bytes opened → WordThen (codes "(") opened subject
+      → PlaceThen subject names sub object named → PlaceThen object named sup closed both
+      → WordThen (codes ")") closed next → AxiomsThen next both axioms rest after
       → AxiomsThen bytes names (inclusion sub sup ∷ axioms) rest after
 
 -- the bytes are an ontology of these axioms

@@ -5,7 +5,8 @@ use Rattle.dl_run.specs.Tokens.{WordThen, PlaceThen}
 use Rattle.dl_run.specs.Queries.{is_variable_byte, IsVariable}
 
 -- behind the word SubClassOf stand two classes in parentheses, and then the rest
-pub record ClassesThen (bytes : List ℕ) (names : List Text) (sub sup : ℕ) (rest : List ℕ) (after : List Text) : Type 0 where
+pub record ClassesThen (bytes : List ℕ) (names : List Text) (sub sup : ℕ) (rest : List ℕ) (after : List Text)
+    : Type 0 where
   pub subject : List ℕ
   pub object : List ℕ
   pub closed : List ℕ

@@ -21,7 +21,8 @@ pub record NameThen (bytes : List ℕ) (text : Text) (rest : List ℕ) : Type 0 
   pub stands : trimmed bytes ≡ 60 ∷ text ++ 62 ∷ rest
   pub name : IsName text
 
--- behind white space stands a name in < and >, and then the rest. The name is at this place of the names, which it may be the last of
+-- behind white space stands a name in < and >, and then the rest. The name is at this place of the names, which it may
+-- be the last of
 pub record PlaceThen (bytes : List ℕ) (names : List Text) (place : ℕ) (rest : List ℕ) (after : List Text) : Type 0 where
   pub text : Text
   pub stands : trimmed bytes ≡ 60 ∷ text ++ 62 ∷ rest

@@ -11,8 +11,8 @@ use crate::scan::{after_word, nothing_then, place_of_next, word_then};
 use dl_names::NameSet;
 use std::alloc::Global;
 
-/// The inclusions of an ontology, in its order: the places of the class that is below and of the one above. `NotBuilt` where the bytes are no ontology of
-/// class inclusions alone, or its names don't fit.
+/// The inclusions of an ontology, in its order: the places of the class that is below and of the one above.
+/// `NotBuilt` where the bytes are no ontology of class inclusions alone, or its names don't fit.
 pub(crate) fn read_ontology(
     alloc: Global,
     bytes: &[u8],

@@ -1,4 +1,5 @@
-// Reading the tokens of ontologies and queries from the front of bytes: words, and names in < and >, with white space before them.
+// Reading the tokens of ontologies and queries from the front of bytes: words, and names in < and >, with white space
+// before them.
 ghost use Rattle.std.specs.Prelude.{◌≡◌, ◌≤◌, ◌<◌, ◌∷◌, ◌++◌, ℕ, List, [], length, IfOk, IfErr, OnOk, OnErr, IfSome, IfNone, not, position};
 ghost use Rattle.dl_names.specs.NameList.{Text, max_names};
 ghost use Rattle.dl_names.specs.Iris.{is_iri_byte, IsName};

@@ -1,8 +1,10 @@
 // The texts that the program prints in place of an output.
 
 /// The written forms of the words.
-pub const USAGE: &str =
-    "usage: quest answer ONTOLOGY DATA QUERY [--limit N]\n       quest run ONTOLOGY DATA STREAMS [--shards N]\n       quest gen NUMBER SIZE\n";
+pub const USAGE: &str = "usage: quest answer ONTOLOGY DATA QUERY [--limit N]
+       quest run ONTOLOGY DATA STREAMS [--shards N]
+       quest gen NUMBER SIZE
+";
 
 /// A file could not be read.
 pub const READ_FAULT: &str = "read fault\n";
