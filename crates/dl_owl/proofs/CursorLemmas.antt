@@ -15,8 +15,8 @@ use Rattle.dl_owl.specs.Expected.{Expected, open_then, close_then, goes, takes_n
 use Rattle.dl_owl.specs.Steps.{move_of}
 use Rattle.dl_owl.specs.Reading.{fails, depth_after, is_too_deep, is_full, outcome_of, outcome}
 use Rattle.dl_owl.specs.Walk as walk
-use Rattle.dl_owl.specs.Walk.{Spot, Here, here, met_of, FromToken, Goes, Faults, Moved, NoneNext, Reads, Passes}
-use Rattle.dl_owl.proofs.WalkLemmas.{symbol_at, goes_tokens, one_token, goes-fit, faults-behind, faults-refused, faults-deep, no_token_refused}
+use Rattle.dl_owl.specs.Walk.{Spot, symbol_at, Here, here, met_of, FromToken, Goes, Faults, Moved, NoneNext, Reads, Passes}
+use Rattle.dl_owl.proofs.WalkLemmas.{goes_tokens, one_token, goes-fit, faults-behind, faults-refused, faults-deep, no_token_refused}
 
 -- ---- the exit of a `?`
 

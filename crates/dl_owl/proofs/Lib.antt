@@ -18,3 +18,4 @@ pub mod WalkLemmas
 pub mod CursorLemmas
 pub mod SpanLemmas
 pub mod PrefixLemmas
+pub mod TakenLemmas

@@ -16,11 +16,7 @@ use Rattle.dl_owl.specs.Expected.{Expected, prologue, prefix_name, prefix_equals
 use Rattle.dl_owl.specs.Steps.{move_of}
 use Rattle.dl_owl.specs.Reading.{fails, depth_after, is_too_deep, outcome_of, outcome}
 use Rattle.dl_owl.specs.Walk as walk
-use Rattle.dl_owl.specs.Walk.{Spot, Here, here, met_of, FromToken, Goes, FaultsBy, Faults}
-
--- the symbol of the next token
-abbrev pub symbol_at : Spot → Symbol
-symbol_at s = (placed s.bytes s.token).symbol
+use Rattle.dl_owl.specs.Walk.{Spot, symbol_at, Here, here, met_of, FromToken, Goes, FaultsBy, Faults}
 
 -- ---- one after another
 

@@ -6,12 +6,14 @@ use Rattle.dl_lex.specs.Grammar.{IsNextToken, IsFaultAt}
 use Rattle.dl_names.specs.NameList.{Text}
 use Rattle.dl_owl.specs.declared.fault.OwlFault.{OwlFault}
 use Rattle.dl_owl.specs.declared.fault.OwlFault.TheVariants.{Syntax, NoMemory}
-use Rattle.dl_owl.specs.Symbols.{Placed, placed, AreTokens}
+use Rattle.dl_owl.specs.Symbols.{Symbol, Placed, placed, AreTokens}
 use Rattle.dl_owl.specs.Prefixes.{Prefixes}
 use Rattle.dl_owl.specs.declared.iri.Found.{Found}
 use Rattle.dl_owl.specs.declared.iri.Found.TheVariants.{Iri, Unknown, Other}
 use Rattle.dl_owl.specs.Causes.{Cause, prefix_unknown, fault_of}
 use Rattle.dl_owl.specs.Expected.{Expected, Move, refuses}
+use Rattle.dl_owl.specs.NamesNext.{IsIri}
+use Rattle.dl_owl.specs.Steps.{at_iri, move_of}
 use Rattle.dl_owl.specs.Reading.{Met, fails, outcome}
 
 -- the bytes, the token that stands next, and how many parentheses are open before it
@@ -19,6 +21,10 @@ pub record Spot : Type 0 where
   pub bytes : List ℕ
   pub token : Token
   pub depth : ℕ
+
+-- the symbol of the next token
+abbrev pub symbol_at : Spot → Symbol
+symbol_at s = (placed s.bytes s.token).symbol
 
 -- with what else is met so far
 pub record Here : Type 0 where
@@ -65,6 +71,20 @@ Reads {V} e from to (Err fault) = (k : V → Expected) → Faults (e k) from fau
 abbrev pub Passes : (Expected → Expected) → Here → Here → Result (Unit {0}) OwlFault → Type 0
 Passes e from to (Ok _) = (k : Expected) → Goes (e k) from k to
 Passes e from to (Err fault) = (k : Expected) → Faults (e k) from fault
+
+-- wherever this is what the next token does, it is read, with a value, up to another place
+abbrev pub Follows : {V : Type 0} → ((V → Expected) → Move) → Here → Here → Result V OwlFault → Type 0
+Follows {V} m from to (Ok v) =
+    (e : Expected) (k : V → Expected) → move_of from.prefixes e (symbol_at from.spot) ≡ m k → Goes e from (k v) to
+Follows {V} m from to (Err fault) =
+    (e : Expected) (k : V → Expected) → move_of from.prefixes e (symbol_at from.spot) ≡ m k → Faults e from fault
+
+-- an IRI of this text stands next; or, where one is expected or else it is this fault, reading comes to a fault
+abbrev pub Expects : Spot → Prefixes → Text → OwlFault → Result (Unit {0}) OwlFault → Type 0
+Expects s p text other (Ok _) = IsIri p (symbol_at s) text
+Expects s p text other (Err fault) =
+    (names : List Text) (e : Expected) (k : Text → Move) (cause : Cause) → other ≡ fault_of cause s.token.start
+    → move_of p e (symbol_at s) ≡ at_iri p (symbol_at s) k (refuses cause) → Faults e (here s p names) fault
 
 -- the next token is passed over
 pub record Moved (old new : Spot) : Type 0 where

@@ -115,6 +115,16 @@ impl<'a> Cursor<'a> {
         }
     }
 
+    /// Whether a blank node stands next.
+    pub(crate) fn is_node(&self) -> bool
+        ensures { IsTrue result ↔ (self.now.token.kind ≡ TokenKind.Node) }
+    {
+        match self.token.kind {
+            TokenKind::Node => true,
+            _ => false,
+        }
+    }
+
     /// The offset of the next token.
     pub(crate) fn start(&self) -> usize
         ensures { result ≡ self.now.token.start }

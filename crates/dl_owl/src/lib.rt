@@ -6,6 +6,7 @@ mod document;
 mod fault;
 mod iri;
 mod laws;
+mod name;
 mod prefixes;
 mod text;
 

@@ -1,0 +1,25 @@
+use Rattle.std.proofs.Common.{if◌then◌else◌, sym, ap, ◌∙◌, subst}
+use Rattle.dl_owl.specs.declared.fault.OwlFault.TheVariants as fault
+use Rattle.dl_owl.specs.NamesNext.{is_free}
+use Rattle.dl_owl.specs.Causes.{reserved}
+use Rattle.dl_owl.specs.Expected.{takes_name, refuses}
+use Rattle.dl_owl.specs.Steps.{name_next}
+use Rattle.dl_owl.specs.Walk.{here, Faults}
+use Rattle.dl_owl.proofs.WalkLemmas.{faults-refused}
+use Rattle.dl_owl.proofs.TakenLemmas.{follows_as}
+use Rattle.dl_owl.proofs.name.take_free.Goals as goal
+
+pub returns-then-not-is_free : goal.returns-then-not-is_free
+returns-then-not-is_free c =
+    λ p iri e k is.
+    subst (λ n. Faults e (here c.args.at.now p c.args.names.now) (fault.Reserved n)) (sym c.start-start.ensures)
+    (faults-refused e c.args.at.now p c.args.names.now reserved
+    (is ∙ ap (λ b. if b then takes_name c.args.text.now k else refuses reserved) (sym c.is_free.ensures ∙ c.if-not-is_free.true)))
+
+pub returns : goal.returns
+returns c =
+    λ p iri.
+    follows_as (takes_name c.args.text.now) (λ k. name_next is_free c.args.text.now k) (here c.args.at.now p c.args.names.now)
+    (here c.take_name.new.at p c.take_name.new.names) c.take_name.result
+    (λ k. ap (λ b. if b then takes_name c.args.text.now k else refuses reserved) (sym c.is_free.ensures ∙ c.if-not-is_free.false))
+    (c.take_name.ensures p iri)

@@ -1,0 +1,156 @@
+// Names that stand next, and are taken at their places.
+ghost use Rattle.std.specs.Prelude.{◌≡◌, string_bytes};
+ghost use Rattle.std.specs.Str.{bytes_eq};
+ghost use Rattle.dl_owl.specs.Prefixes.{Prefixes};
+ghost use Rattle.dl_owl.specs.NamesNext.{IsIri, is_free, may_be_class, owl_thing};
+ghost use Rattle.dl_owl.specs.Causes.{Cause, fault_of};
+ghost use Rattle.dl_owl.specs.Expected.{takes_name, refuses, property_then, individual_then};
+ghost use Rattle.dl_owl.specs.Steps.{name_next, named_next, refused_individual};
+ghost use Rattle.dl_owl.specs.Walk.{here, symbol_at, Follows, Expects, Reads};
+
+use crate::cursor::Cursor;
+use crate::fault::{Construct, OwlFault};
+use crate::iri::{Found, find_iri};
+use crate::prefixes::Prefixes;
+use dl_names::{NameFault, NameSet, is_reserved};
+
+const OWL_THING: &str = "http://www.w3.org/2002/07/owl#Thing";
+const OWL_NOTHING: &str = "http://www.w3.org/2002/07/owl#Nothing";
+
+/// Takes the next token as a name, where it is an IRI of this text.
+fn take_name(at: &mut Cursor, names: &mut NameSet, text: &str) -> Result<u32, OwlFault>
+    ensures { (p : Prefixes) → IsIri p (symbol_at at.old) text.now
+        → Follows (takes_name text.now) (here at.old p names.old) (here at.new p names.new) result }
+{
+    let start = at.start();
+    let place = match names.add(text) {
+        Ok(place) => place,
+        Err(NameFault::Full) => return Err(OwlFault::TooManyNames { at: start }),
+        Err(NameFault::NoMemory) => return Err(OwlFault::NoMemory),
+    };
+    at.advance()?;
+    Ok(place)
+}
+
+/// Whether an IRI may name an object property or an individual.
+fn is_free(text: &str) -> bool
+    ensures { result ≡ is_free text.now }
+{
+    !is_reserved(text.as_bytes())
+}
+
+/// Takes the next token as the name of an object property or of an individual, where it is an IRI of this text.
+fn take_free(at: &mut Cursor, names: &mut NameSet, text: &str) -> Result<u32, OwlFault>
+    ensures { (p : Prefixes) → IsIri p (symbol_at at.old) text.now
+        → Follows (λ k. name_next is_free text.now k) (here at.old p names.old) (here at.new p names.new) result }
+{
+    if !is_free(text) {
+        let start = at.start();
+        return Err(OwlFault::Reserved { at: start });
+    }
+    take_name(at, names, text)
+}
+
+/// Whether an IRI may name a class.
+fn may_be_class(text: &str) -> bool
+    ensures { result ≡ may_be_class text.now }
+{
+    is_free(text) || OWL_NOTHING == text
+}
+
+/// Takes the next token as the name of a class, where it is an IRI of this text.
+pub(crate) fn take_class(at: &mut Cursor, names: &mut NameSet, text: &str) -> Result<u32, OwlFault>
+    ensures { (p : Prefixes) → IsIri p (symbol_at at.old) text.now
+        → Follows (λ k. name_next may_be_class text.now k) (here at.old p names.old) (here at.new p names.new) result }
+{
+    if !may_be_class(text) {
+        let start = at.start();
+        return Err(OwlFault::Reserved { at: start });
+    }
+    take_name(at, names, text)
+}
+
+/// Whether this is the IRI of `owl:Thing`.
+pub(crate) fn is_thing(text: &str) -> bool
+    ensures { result ≡ bytes_eq owl_thing text.now }
+{
+    OWL_THING == text
+}
+
+/// Writes out the IRI that stands next; where the token is none, it is this fault.
+pub(crate) fn expect_iri(
+    at: &Cursor,
+    prefixes: &Prefixes,
+    text: &mut String,
+    other: OwlFault,
+) -> Result<(), OwlFault>
+    ensures { Expects at.now prefixes.now (string_bytes text.new) other result }
+{
+    let start = at.start();
+    let Ok(found) = find_iri(at, prefixes, text) else {
+        return Err(OwlFault::NoMemory);
+    };
+    match found {
+        Found::Iri => Ok(()),
+        Found::Unknown => Err(OwlFault::PrefixUnknown { at: start }),
+        Found::Other => Err(other),
+    }
+}
+
+/// The place of the free name that stands next; where the token is no IRI, it is this fault.
+fn named(
+    at: &mut Cursor,
+    prefixes: &Prefixes,
+    names: &mut NameSet,
+    text: &mut String,
+    other: OwlFault,
+) -> Result<u32, OwlFault>
+    ensures { (cause : Cause) → other ≡ fault_of cause at.old.token.start
+        → Follows (λ k. named_next prefixes.now is_free k (refuses cause) (symbol_at at.old))
+            (here at.old prefixes.now names.old) (here at.new prefixes.now names.new) result }
+{
+    expect_iri(at, prefixes, text, other)?;
+    take_free(at, names, text.as_str())
+}
+
+/// The place of the object property that stands next.
+pub(crate) fn property(
+    at: &mut Cursor,
+    prefixes: &Prefixes,
+    names: &mut NameSet,
+    text: &mut String,
+) -> Result<u32, OwlFault>
+    ensures { Reads property_then (here at.old prefixes.now names.old)
+        (here at.new prefixes.now names.new) result }
+{
+    let start = at.start();
+    named(at, prefixes, names, text, OwlFault::Syntax { at: start })
+}
+
+/// The fault of a token that is no IRI, where an individual is expected.
+pub(crate) fn no_individual(at: &Cursor) -> OwlFault
+    ensures { result ≡ fault_of (refused_individual (symbol_at at.now)) at.now.token.start }
+{
+    let start = at.start();
+    if at.is_node() {
+        return OwlFault::LeftOut {
+            at: start,
+            what: Construct::AnonymousIndividual,
+        };
+    }
+    OwlFault::Syntax { at: start }
+}
+
+/// The place of the individual that stands next.
+pub(crate) fn individual(
+    at: &mut Cursor,
+    prefixes: &Prefixes,
+    names: &mut NameSet,
+    text: &mut String,
+) -> Result<u32, OwlFault>
+    ensures { Reads individual_then (here at.old prefixes.now names.old)
+        (here at.new prefixes.now names.new) result }
+{
+    let other = no_individual(at);
+    named(at, prefixes, names, text, other)
+}
