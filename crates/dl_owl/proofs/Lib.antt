@@ -19,3 +19,4 @@ pub mod CursorLemmas
 pub mod SpanLemmas
 pub mod PrefixLemmas
 pub mod TakenLemmas
+pub mod ReaderLemmas

@@ -50,6 +50,39 @@ goes-faults e a f b fault first (inr by) =
       comes = front.1.1 ∙ by.comes;
     })
 
+-- ---- what is expected in two ways that go on alike
+
+pub outcome_alike : (e f : Expected) (h : Here) (all : Bool) (tokens : List Placed) → FromToken h.spot.bytes all h.spot.token tokens
+    → move_of h.prefixes e (symbol_at h.spot) ≡ move_of h.prefixes f (symbol_at h.spot)
+    → outcome e (met_of h) tokens ≡ outcome f (met_of h) tokens
+outcome_alike e f h all tokens (walk.FromToken.last end) is =
+    ap (outcome_of (met_of h) (placed h.spot.bytes h.spot.token) (λ g later. outcome g later [])) is
+outcome_alike e f h all tokens (walk.FromToken.more {rest = rest} not them) is =
+    ap (outcome_of (met_of h) (placed h.spot.bytes h.spot.token) (λ g later. outcome g later rest)) is
+
+pub goes_alike : (e f : Expected) (a : Here) (later : Expected) (b : Here)
+    → move_of a.prefixes e (symbol_at a.spot) ≡ move_of a.prefixes f (symbol_at a.spot) → Goes f a later b → Goes e a later b
+goes_alike e f a later b is h = record {
+  same = h.same;
+  on = λ all rest from.
+      let front = h.on all rest from in
+      (front.0, (front.1.0, outcome_alike e f a all front.0 front.1.0 is ∙ front.1.1));
+}
+
+pub faults_alike : (e f : Expected) (a : Here) (fault : OwlFault)
+    → move_of a.prefixes e (symbol_at a.spot) ≡ move_of a.prefixes f (symbol_at a.spot) → Faults f a fault → Faults e a fault
+faults_alike e f a fault is (inl none) = inl none
+faults_alike e f a fault is (inr by) =
+    inr
+    (record {
+      cause = by.cause;
+      at = by.at;
+      tokens = by.tokens;
+      is = by.is;
+      are = by.are;
+      comes = outcome_alike e f a false by.tokens by.are is ∙ by.comes;
+    })
+
 -- ---- a token that fits
 
 module _ (e next : Expected) (s : Spot) (p : Prefixes) (names : List name_list.Text) (is : move_of p e (symbol_at s) ≡ goes next)

@@ -8,6 +8,7 @@ mod iri;
 mod laws;
 mod name;
 mod prefixes;
+mod role;
 mod text;
 
 pub use document::Document;

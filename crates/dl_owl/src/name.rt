@@ -1,11 +1,11 @@
 // Names that stand next, and are taken at their places.
-ghost use Rattle.std.specs.Prelude.{◌≡◌, string_bytes};
+ghost use Rattle.std.specs.Prelude.{◌≡◌, Some, None, string_bytes};
 ghost use Rattle.std.specs.Str.{bytes_eq};
 ghost use Rattle.dl_owl.specs.Prefixes.{Prefixes};
 ghost use Rattle.dl_owl.specs.NamesNext.{IsIri, is_free, may_be_class, owl_thing};
 ghost use Rattle.dl_owl.specs.Causes.{Cause, fault_of};
-ghost use Rattle.dl_owl.specs.Expected.{takes_name, refuses, property_then, individual_then};
-ghost use Rattle.dl_owl.specs.Steps.{name_next, named_next, refused_individual};
+ghost use Rattle.dl_owl.specs.Expected.{goes, takes_name, refuses, property_then, individual_then};
+ghost use Rattle.dl_owl.specs.Steps.{name_next, named_next, class_or_thing, refused_individual};
 ghost use Rattle.dl_owl.specs.Walk.{here, symbol_at, Follows, Expects, Reads};
 
 use crate::cursor::Cursor;
@@ -15,6 +15,7 @@ use crate::prefixes::Prefixes;
 use dl_names::{NameFault, NameSet, is_reserved};
 
 const OWL_THING: &str = "http://www.w3.org/2002/07/owl#Thing";
+
 const OWL_NOTHING: &str = "http://www.w3.org/2002/07/owl#Nothing";
 
 /// Takes the next token as a name, where it is an IRI of this text.
@@ -59,7 +60,7 @@ fn may_be_class(text: &str) -> bool
 }
 
 /// Takes the next token as the name of a class, where it is an IRI of this text.
-pub(crate) fn take_class(at: &mut Cursor, names: &mut NameSet, text: &str) -> Result<u32, OwlFault>
+fn take_class(at: &mut Cursor, names: &mut NameSet, text: &str) -> Result<u32, OwlFault>
     ensures { (p : Prefixes) → IsIri p (symbol_at at.old) text.now
         → Follows (λ k. name_next may_be_class text.now k) (here at.old p names.old) (here at.new p names.new) result }
 {
@@ -71,7 +72,7 @@ pub(crate) fn take_class(at: &mut Cursor, names: &mut NameSet, text: &str) -> Re
 }
 
 /// Whether this is the IRI of `owl:Thing`.
-pub(crate) fn is_thing(text: &str) -> bool
+fn is_thing(text: &str) -> bool
     ensures { result ≡ bytes_eq owl_thing text.now }
 {
     OWL_THING == text
@@ -107,7 +108,7 @@ fn named(
 ) -> Result<u32, OwlFault>
     ensures { (cause : Cause) → other ≡ fault_of cause at.old.token.start
         → Follows (λ k. named_next prefixes.now is_free k (refuses cause) (symbol_at at.old))
-            (here at.old prefixes.now names.old) (here at.new prefixes.now names.new) result }
+        (here at.old prefixes.now names.old) (here at.new prefixes.now names.new) result }
 {
     expect_iri(at, prefixes, text, other)?;
     take_free(at, names, text.as_str())
@@ -128,7 +129,7 @@ pub(crate) fn property(
 }
 
 /// The fault of a token that is no IRI, where an individual is expected.
-pub(crate) fn no_individual(at: &Cursor) -> OwlFault
+fn no_individual(at: &Cursor) -> OwlFault
     ensures { result ≡ fault_of (refused_individual (symbol_at at.now)) at.now.token.start }
 {
     let start = at.start();
@@ -153,4 +154,27 @@ pub(crate) fn individual(
 {
     let other = no_individual(at);
     named(at, prefixes, names, text, other)
+}
+
+/// The class that stands next, none where it is `owl:Thing`; where the token is no IRI, it is this fault.
+pub(crate) fn class_or_thing(
+    at: &mut Cursor,
+    prefixes: &Prefixes,
+    names: &mut NameSet,
+    text: &mut String,
+    other: OwlFault,
+) -> Result<Option<u32>, OwlFault>
+    ensures { (cause : Cause) → other ≡ fault_of cause at.old.token.start
+        → Follows (λ k. class_or_thing prefixes.now (goes (k None)) (λ c. k (Some c)) (refuses cause)
+        (symbol_at at.old))
+        (here at.old prefixes.now names.old) (here at.new prefixes.now names.new) result }
+{
+    expect_iri(at, prefixes, text, other)?;
+    let iri = text.as_str();
+    if is_thing(iri) {
+        at.advance()?;
+        return Ok(None);
+    }
+    let class = take_class(at, names, iri)?;
+    Ok(Some(class))
 }

@@ -1,0 +1,59 @@
+-- What a reader of roles and classes looks at: a keyword that fits, a token that is none, and owl:Thing.
+use Rattle.std.proofs.Common.{◌≡◌, ℕ, true, false, if◌then◌else◌, List, refl, sym, ap, ◌∙◌, slice_range}
+use Rattle.std.specs.Str.{bytes_eq}
+use Rattle.dl_lex.specs.declared.keyword.Keyword.{Keyword}
+use Rattle.dl_lex.specs.declared.keyword.Keyword.TheVariants.{ObjectInverseOf}
+use Rattle.dl_lex.specs.declared.token.TokenKind.{TokenKind}
+use Rattle.dl_lex.specs.declared.token.TokenKind.TheVariants.{Word, End}
+use Rattle.dl_names.specs.NameList as name_list
+use Rattle.dl_terms.specs.Roles.{named}
+use Rattle.dl_terms.specs.declared.role.Role.{Role}
+use Rattle.dl_owl.specs.declared.fault.OwlFault.{OwlFault}
+use Rattle.dl_owl.specs.Symbols.{Symbol, keyword, symbol_of}
+use Rattle.dl_owl.specs.Prefixes.{Prefixes}
+use Rattle.dl_owl.specs.NamesNext.{owl_thing, is_free, may_be_class, IsIri}
+use Rattle.dl_owl.specs.Causes.{syntax}
+use Rattle.dl_owl.specs.Expected.{Expected, Move, goes, refuses}
+use Rattle.dl_owl.specs.Steps.{name_next, named_next, class_or_thing, role_next, move_of}
+use Rattle.dl_owl.specs.Reading.{depth_after, is_too_deep}
+use Rattle.dl_owl.specs.Walk.{Spot, symbol_at, here, Goes, Faults, Moved, NoneNext}
+use Rattle.dl_owl.proofs.IriLemmas.{at_iri-is}
+use Rattle.dl_owl.proofs.CursorLemmas.{advance-goes, advance-faults}
+
+-- ---- a keyword that fits
+
+module _ (w : Keyword) (e next : Expected) (s : Spot) (p : Prefixes) (names : List name_list.Text) (is : s.token.kind ≡ Word w)
+    (fits : move_of p e (keyword w) ≡ goes next) where
+  symbol_is : symbol_at s ≡ keyword w
+  symbol_is = ap (λ kind. symbol_of kind (slice_range s.bytes s.token.start s.token.end)) is
+
+  pub keyword-goes : (new : Spot) → Moved s new → Goes e (here s p names) next (here new p names)
+  keyword-goes new m =
+      advance-goes e next s p names (ap (move_of p e) symbol_is ∙ fits) (ap (λ t. is_too_deep t s.depth) symbol_is)
+      (λ end. let apart : Word w ≡ End = sym is ∙ end in cc) new new m
+      (ap (λ t. let u : Spot = record { bytes = new.bytes; token = new.token; depth = depth_after t new.depth } in u) (sym symbol_is))
+
+  pub keyword-faults : (fault : OwlFault) → NoneNext s fault → Faults e (here s p names) fault
+  keyword-faults fault none =
+      advance-faults e next s p names (ap (move_of p e) symbol_is ∙ fits) (ap (λ t. is_too_deep t s.depth) symbol_is)
+      (λ end. let apart : Word w ≡ End = sym is ∙ end in cc) fault none
+
+-- ---- a role that is no inverse
+
+pub role_plain : (kind : TokenKind) (bytes : List ℕ) (p : Prefixes) (k : Role → Expected) → (kind ≡ Word ObjectInverseOf → ⊥)
+    → role_next p k (symbol_of kind bytes) ≡ named_next p is_free (λ n. k (named n)) (refuses syntax) (symbol_of kind bytes)
+role_plain (Word ObjectInverseOf) bytes p k not = absurd (not refl)
+role_plain (Word w) bytes p k not = refl
+role_plain kind bytes p k not = refl
+
+-- ---- a class or owl:Thing
+
+module _ (p : Prefixes) (s : Symbol) (text : name_list.Text) (iri : IsIri p s text) (thing : Move) (k : ℕ → Expected) (other : Move) where
+  class_by : class_or_thing p thing k other s ≡ (if bytes_eq owl_thing text then thing else name_next may_be_class text k)
+  class_by = at_iri-is p s text (λ t. if bytes_eq owl_thing t then thing else name_next may_be_class t k) other iri
+
+  pub class_thing : bytes_eq owl_thing text ≡ true → class_or_thing p thing k other s ≡ thing
+  class_thing same = class_by ∙ ap (λ b. if b then thing else name_next may_be_class text k) same
+
+  pub class_other : bytes_eq owl_thing text ≡ false → class_or_thing p thing k other s ≡ name_next may_be_class text k
+  class_other differs = class_by ∙ ap (λ b. if b then thing else name_next may_be_class text k) differs

@@ -1,0 +1,50 @@
+// Roles that stand next.
+ghost use Rattle.std.specs.Prelude.{◌≡◌, ◌↔◌, IsTrue};
+ghost use Rattle.dl_terms.specs.Roles.{named};
+ghost use Rattle.dl_owl.specs.Expected.{role_then};
+ghost use Rattle.dl_owl.specs.Walk.{here, Reads};
+
+use crate::cursor::{Cursor, close, open};
+use crate::fault::OwlFault;
+use crate::name::property;
+use crate::prefixes::Prefixes;
+use dl_lex::{Keyword, TokenKind};
+use dl_names::NameSet;
+use dl_terms::{Base, Role};
+
+/// Whether `ObjectInverseOf` stands next.
+fn is_inverse(at: &Cursor) -> bool
+    ensures { IsTrue result ↔ (at.now.token.kind ≡ TokenKind.Word Keyword.ObjectInverseOf) }
+{
+    match at.kind() {
+        TokenKind::Word(Keyword::ObjectInverseOf) => true,
+        _ => false,
+    }
+}
+
+/// The role that stands next.
+pub(crate) fn role(
+    at: &mut Cursor,
+    prefixes: &Prefixes,
+    names: &mut NameSet,
+    text: &mut String,
+) -> Result<Role, OwlFault>
+    ensures { Reads role_then (here at.old prefixes.now names.old)
+        (here at.new prefixes.now names.new) result }
+{
+    if !is_inverse(at) {
+        let place = property(at, prefixes, names, text)?;
+        return Ok(Role {
+            base: Base::Named(place),
+            inverse: false,
+        });
+    }
+    at.advance()?;
+    open(at)?;
+    let place = property(at, prefixes, names, text)?;
+    close(at)?;
+    Ok(Role {
+        base: Base::Named(place),
+        inverse: true,
+    })
+}
