@@ -1,5 +1,5 @@
 -- What a reader of roles and classes looks at: a keyword that fits, a token that is none, and owl:Thing.
-use Rattle.std.proofs.Common.{◌≡◌, ℕ, true, false, if◌then◌else◌, List, refl, sym, ap, ◌∙◌, slice_range}
+use Rattle.std.proofs.Common.{◌≡◌, ℕ, true, false, Option, Some, None, if◌then◌else◌, List, refl, sym, ap, ◌∙◌, slice_range}
 use Rattle.std.specs.Str.{bytes_eq}
 use Rattle.dl_lex.specs.declared.keyword.Keyword.{Keyword}
 use Rattle.dl_lex.specs.declared.keyword.Keyword.TheVariants.{ObjectInverseOf}
@@ -8,6 +8,8 @@ use Rattle.dl_lex.specs.declared.token.TokenKind.TheVariants.{Word, End}
 use Rattle.dl_names.specs.NameList as name_list
 use Rattle.dl_terms.specs.Roles.{named}
 use Rattle.dl_terms.specs.declared.role.Role.{Role}
+use Rattle.dl_terms.specs.declared.axiom.Part.{Part}
+use Rattle.dl_terms.specs.declared.axiom.Part.TheVariants as part
 use Rattle.dl_owl.specs.declared.fault.OwlFault.{OwlFault}
 use Rattle.dl_owl.specs.Symbols.{Symbol, keyword, symbol_of}
 use Rattle.dl_owl.specs.Prefixes.{Prefixes}
@@ -57,3 +59,8 @@ module _ (p : Prefixes) (s : Symbol) (text : name_list.Text) (iri : IsIri p s te
 
   pub class_other : bytes_eq owl_thing text ≡ false → class_or_thing p thing k other s ≡ name_next may_be_class text k
   class_other differs = class_by ∙ ap (λ b. if b then thing else name_next may_be_class text k) differs
+
+-- what is expected behind a filler
+abbrev pub filled : Role → (Part → Expected) → Option ℕ → Expected
+filled r k None = k (part.Any r)
+filled r k (Some n) = k (part.Fill r n)

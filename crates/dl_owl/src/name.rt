@@ -1,12 +1,13 @@
 // Names that stand next, and are taken at their places.
-ghost use Rattle.std.specs.Prelude.{◌≡◌, Some, None, string_bytes};
+ghost use Rattle.std.specs.Prelude.{◌≡◌, Some, None, List, string_bytes};
+ghost use Rattle.dl_names.specs.NameList.{Text};
 ghost use Rattle.std.specs.Str.{bytes_eq};
 ghost use Rattle.dl_owl.specs.Prefixes.{Prefixes};
 ghost use Rattle.dl_owl.specs.NamesNext.{IsIri, is_free, may_be_class, owl_thing};
 ghost use Rattle.dl_owl.specs.Causes.{Cause, fault_of};
-ghost use Rattle.dl_owl.specs.Expected.{goes, takes_name, refuses, property_then, individual_then};
+ghost use Rattle.dl_owl.specs.Expected.{goes, takes_name, refuses, iri_then, property_then, individual_then};
 ghost use Rattle.dl_owl.specs.Steps.{name_next, named_next, class_or_thing, refused_individual};
-ghost use Rattle.dl_owl.specs.Walk.{here, symbol_at, Follows, Expects, Reads};
+ghost use Rattle.dl_owl.specs.Walk.{here, symbol_at, Follows, Expects, Passes, Reads};
 
 use crate::cursor::Cursor;
 use crate::fault::{Construct, OwlFault};
@@ -96,6 +97,17 @@ pub(crate) fn expect_iri(
         Found::Unknown => Err(OwlFault::PrefixUnknown { at: start }),
         Found::Other => Err(other),
     }
+}
+
+/// Passes over an IRI that stands next.
+pub(crate) fn iri(at: &mut Cursor, prefixes: &Prefixes, text: &mut String) -> Result<(), OwlFault>
+    ensures { (names : List Text) → Passes iri_then (here at.old prefixes.now names)
+        (here at.new prefixes.now names) result }
+{
+    let start = at.start();
+    expect_iri(at, prefixes, text, OwlFault::Syntax { at: start })?;
+    at.advance()?;
+    Ok(())
 }
 
 /// The place of the free name that stands next; where the token is no IRI, it is this fault.
