@@ -1,8 +1,8 @@
 -- What a reader of roles and classes looks at: a keyword that fits, a token that is none, and owl:Thing.
-use Rattle.std.proofs.Common.{◌≡◌, ℕ, true, false, Option, Some, None, if◌then◌else◌, List, refl, sym, ap, ◌∙◌, slice_range}
+use Rattle.std.proofs.Common.{◌≡◌, ℕ, Bool, true, false, Option, Some, None, if◌then◌else◌, List, refl, sym, ap, ◌∙◌, slice_range}
 use Rattle.std.specs.Str.{bytes_eq}
 use Rattle.dl_lex.specs.declared.keyword.Keyword.{Keyword}
-use Rattle.dl_lex.specs.declared.keyword.Keyword.TheVariants.{ObjectInverseOf}
+use Rattle.dl_lex.specs.declared.keyword.Keyword.TheVariants.{ObjectInverseOf, ObjectSomeValuesFrom}
 use Rattle.dl_lex.specs.declared.token.TokenKind.{TokenKind}
 use Rattle.dl_lex.specs.declared.token.TokenKind.TheVariants.{Word, End}
 use Rattle.dl_names.specs.NameList as name_list
@@ -14,9 +14,9 @@ use Rattle.dl_owl.specs.declared.fault.OwlFault.{OwlFault}
 use Rattle.dl_owl.specs.Symbols.{Symbol, keyword, symbol_of}
 use Rattle.dl_owl.specs.Prefixes.{Prefixes}
 use Rattle.dl_owl.specs.NamesNext.{owl_thing, is_free, may_be_class, IsIri}
-use Rattle.dl_owl.specs.Causes.{syntax}
+use Rattle.dl_owl.specs.Causes.{syntax, not_ql}
 use Rattle.dl_owl.specs.Expected.{Expected, Move, goes, refuses}
-use Rattle.dl_owl.specs.Steps.{name_next, named_next, class_or_thing, role_next, move_of}
+use Rattle.dl_owl.specs.Steps.{at_iri, name_next, named_next, class_or_thing, role_next, move_of}
 use Rattle.dl_owl.specs.Reading.{depth_after, is_too_deep}
 use Rattle.dl_owl.specs.Walk.{Spot, symbol_at, here, Goes, Faults, Moved, NoneNext}
 use Rattle.dl_owl.proofs.IriLemmas.{at_iri-is}
@@ -64,3 +64,12 @@ module _ (p : Prefixes) (s : Symbol) (text : name_list.Text) (iri : IsIri p s te
 abbrev pub filled : Role → (Part → Expected) → Option ℕ → Expected
 filled r k None = k (part.Any r)
 filled r k (Some n) = k (part.Fill r n)
+
+-- the filler of a left side
+pub thing_by : (p : Prefixes) (s : Symbol) (text : name_list.Text) → IsIri p s text → (e : Expected) (other : Move) (b : Bool)
+    → bytes_eq owl_thing text ≡ b
+    → at_iri p s (λ t. if bytes_eq owl_thing t then goes e else refuses (not_ql ObjectSomeValuesFrom)) other
+    ≡ (if b then goes e else refuses (not_ql ObjectSomeValuesFrom))
+thing_by p s text iri e other b same =
+    at_iri-is p s text (λ t. if bytes_eq owl_thing t then goes e else refuses (not_ql ObjectSomeValuesFrom)) other iri
+    ∙ ap (λ x. if x then goes e else refuses (not_ql ObjectSomeValuesFrom)) same

@@ -1,15 +1,17 @@
-// Fillers and classes that stand next.
-ghost use Rattle.std.specs.Prelude.{◌≡◌, if◌then◌else◌};
+// Classes and fillers that stand next.
+ghost use Rattle.std.specs.Prelude.{◌≡◌, List, if◌then◌else◌};
 ghost use Rattle.dl_lex.specs.declared.keyword.Keyword.{Keyword};
-ghost use Rattle.dl_owl.specs.Causes.{syntax, not_ql, fault_of};
-ghost use Rattle.dl_owl.specs.Expected.{filler_then};
+ghost use Rattle.dl_names.specs.NameList.{Text};
+ghost use Rattle.dl_owl.specs.declared.fault.Construct.TheVariants.{Thing};
+ghost use Rattle.dl_owl.specs.Causes.{syntax, not_ql, left_out, fault_of};
+ghost use Rattle.dl_owl.specs.Expected.{refuses, thing_then, filler_then, class_then, declared_class};
 ghost use Rattle.dl_owl.specs.Refused.{begins_class};
-ghost use Rattle.dl_owl.specs.Steps.{refused_class};
-ghost use Rattle.dl_owl.specs.Walk.{here, symbol_at, Reads};
+ghost use Rattle.dl_owl.specs.Steps.{refused_class, class_or_thing};
+ghost use Rattle.dl_owl.specs.Walk.{here, symbol_at, Follows, Passes, Reads};
 
 use crate::cursor::Cursor;
 use crate::fault::{Construct, OwlFault};
-use crate::name::class_or_thing;
+use crate::name::{class_or_thing, expect_iri, is_thing, take_class};
 use crate::prefixes::Prefixes;
 use dl_lex::{Keyword, TokenKind};
 use dl_names::NameSet;
@@ -82,4 +84,74 @@ pub(crate) fn filler(
         None => Ok(Part::Any(role)),
         Some(class) => Ok(Part::Fill(role, class)),
     }
+}
+
+/// Passes over `owl:Thing`, the filler of a left side.
+pub(crate) fn thing(at: &mut Cursor, prefixes: &Prefixes, text: &mut String) -> Result<(), OwlFault>
+    ensures { (names : List Text) → Passes thing_then (here at.old prefixes.now names)
+        (here at.new prefixes.now names) result }
+{
+    let other = no_class(at, Keyword::ObjectSomeValuesFrom);
+    let start = at.start();
+    expect_iri(at, prefixes, text, other)?;
+    let iri = text.as_str();
+    if !is_thing(iri) {
+        return Err(OwlFault::NotQl {
+            at: start,
+            what: Construct::Keyword(Keyword::ObjectSomeValuesFrom),
+        });
+    }
+    at.advance()?;
+    Ok(())
+}
+
+/// The class of a left side that stands next.
+pub(crate) fn named_class(
+    at: &mut Cursor,
+    prefixes: &Prefixes,
+    names: &mut NameSet,
+    text: &mut String,
+) -> Result<u32, OwlFault>
+    ensures { Follows (λ k. class_or_thing prefixes.now (refuses (left_out Thing)) k (refuses syntax)
+        (symbol_at at.old))
+        (here at.old prefixes.now names.old) (here at.new prefixes.now names.new) result }
+{
+    let start = at.start();
+    expect_iri(at, prefixes, text, OwlFault::Syntax { at: start })?;
+    let iri = text.as_str();
+    if is_thing(iri) {
+        return Err(OwlFault::LeftOut {
+            at: start,
+            what: Construct::Thing,
+        });
+    }
+    take_class(at, names, iri)
+}
+
+/// The class of an assertion that stands next, none where it is `owl:Thing`.
+pub(crate) fn asserted_class(
+    at: &mut Cursor,
+    prefixes: &Prefixes,
+    names: &mut NameSet,
+    text: &mut String,
+) -> Result<Option<u32>, OwlFault>
+    ensures { Reads class_then (here at.old prefixes.now names.old)
+        (here at.new prefixes.now names.new) result }
+{
+    let other = no_class(at, Keyword::ClassAssertion);
+    class_or_thing(at, prefixes, names, text, other)
+}
+
+/// The class of a declaration that stands next, none where it is `owl:Thing`.
+pub(crate) fn declared_class(
+    at: &mut Cursor,
+    prefixes: &Prefixes,
+    names: &mut NameSet,
+    text: &mut String,
+) -> Result<Option<u32>, OwlFault>
+    ensures { Reads declared_class (here at.old prefixes.now names.old)
+        (here at.new prefixes.now names.new) result }
+{
+    let start = at.start();
+    class_or_thing(at, prefixes, names, text, OwlFault::Syntax { at: start })
 }

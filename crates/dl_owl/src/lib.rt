@@ -7,6 +7,7 @@ mod document;
 mod fault;
 mod iri;
 mod laws;
+mod left;
 mod name;
 mod prefixes;
 mod role;

@@ -61,7 +61,7 @@ fn may_be_class(text: &str) -> bool
 }
 
 /// Takes the next token as the name of a class, where it is an IRI of this text.
-fn take_class(at: &mut Cursor, names: &mut NameSet, text: &str) -> Result<u32, OwlFault>
+pub(crate) fn take_class(at: &mut Cursor, names: &mut NameSet, text: &str) -> Result<u32, OwlFault>
     ensures { (p : Prefixes) → IsIri p (symbol_at at.old) text.now
         → Follows (λ k. name_next may_be_class text.now k) (here at.old p names.old) (here at.new p names.new) result }
 {
@@ -73,7 +73,7 @@ fn take_class(at: &mut Cursor, names: &mut NameSet, text: &str) -> Result<u32, O
 }
 
 /// Whether this is the IRI of `owl:Thing`.
-fn is_thing(text: &str) -> bool
+pub(crate) fn is_thing(text: &str) -> bool
     ensures { result ≡ bytes_eq owl_thing text.now }
 {
     OWL_THING == text
