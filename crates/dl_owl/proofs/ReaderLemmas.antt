@@ -8,15 +8,19 @@ use Rattle.dl_lex.specs.declared.token.TokenKind.TheVariants.{Word, End}
 use Rattle.dl_names.specs.NameList as name_list
 use Rattle.dl_terms.specs.Roles.{named}
 use Rattle.dl_terms.specs.declared.role.Role.{Role}
+use Rattle.dl_terms.specs.declared.role.Basic.{Basic}
+use Rattle.dl_terms.specs.declared.role.Basic.TheVariants as basic
 use Rattle.dl_terms.specs.declared.axiom.Part.{Part}
 use Rattle.dl_terms.specs.declared.axiom.Part.TheVariants as part
 use Rattle.dl_owl.specs.declared.fault.OwlFault.{OwlFault}
+use Rattle.dl_owl.specs.declared.fault.Construct.TheVariants.{Thing}
+use Rattle.dl_owl.specs.Refused.{refused_sub}
 use Rattle.dl_owl.specs.Symbols.{Symbol, keyword, symbol_of}
 use Rattle.dl_owl.specs.Prefixes.{Prefixes}
 use Rattle.dl_owl.specs.NamesNext.{owl_thing, is_free, may_be_class, IsIri}
-use Rattle.dl_owl.specs.Causes.{syntax, not_ql}
+use Rattle.dl_owl.specs.Causes.{syntax, not_ql, left_out}
 use Rattle.dl_owl.specs.Expected.{Expected, Move, goes, refuses}
-use Rattle.dl_owl.specs.Steps.{at_iri, name_next, named_next, class_or_thing, role_next, move_of}
+use Rattle.dl_owl.specs.Steps.{at_iri, name_next, named_next, class_or_thing, role_next, sub_next, move_of}
 use Rattle.dl_owl.specs.Reading.{depth_after, is_too_deep}
 use Rattle.dl_owl.specs.Walk.{Spot, symbol_at, here, Goes, Faults, Moved, NoneNext}
 use Rattle.dl_owl.proofs.IriLemmas.{at_iri-is}
@@ -73,3 +77,21 @@ pub thing_by : (p : Prefixes) (s : Symbol) (text : name_list.Text) → IsIri p s
 thing_by p s text iri e other b same =
     at_iri-is p s text (λ t. if bytes_eq owl_thing t then goes e else refuses (not_ql ObjectSomeValuesFrom)) other iri
     ∙ ap (λ x. if x then goes e else refuses (not_ql ObjectSomeValuesFrom)) same
+
+-- ---- class expressions of a left side
+
+refused_word : (w : Keyword) (p : Prefixes) (k : Basic → Expected) → (w ≡ ObjectSomeValuesFrom → ⊥)
+    → sub_next p k (keyword w) ≡ refuses (refused_sub w)
+refused_word ObjectSomeValuesFrom p k not = absurd (not refl)
+refused_word w p k not = refl
+
+pub sub_refused : (kind : TokenKind) (w : Keyword) (bytes : List ℕ) (p : Prefixes) (k : Basic → Expected) → kind ≡ Word w
+    → (kind ≡ Word ObjectSomeValuesFrom → ⊥) → sub_next p k (symbol_of kind bytes) ≡ refuses (refused_sub w)
+sub_refused kind w bytes p k is not =
+    ap (λ t. sub_next p k (symbol_of t bytes)) is ∙ refused_word w p k (λ same. not (is ∙ ap Word same))
+
+pub sub_class : (kind : TokenKind) (bytes : List ℕ) (p : Prefixes) (k : Basic → Expected) → ((w : Keyword) → kind ≡ Word w → ⊥)
+    → sub_next p k (symbol_of kind bytes)
+    ≡ class_or_thing p (refuses (left_out Thing)) (λ n. k (basic.Class n)) (refuses syntax) (symbol_of kind bytes)
+sub_class (Word w) bytes p k not = absurd (not w refl)
+sub_class kind bytes p k not = refl

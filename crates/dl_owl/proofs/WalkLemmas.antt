@@ -1,5 +1,5 @@
 -- Steps of a reader over the tokens, one after another.
-use Rattle.std.proofs.Common.{◌≡◌, ◌≢◌, ℕ, suc, zero, Bool, true, false, cond, not, inl, inr, List, [], ◌∷◌, refl, sym, ap, ◌∙◌, subst}
+use Rattle.std.proofs.Common.{◌≡◌, ◌≢◌, ℕ, suc, zero, Bool, true, false, cond, not, inl, inr, Result, Ok, Err, List, [], ◌∷◌, refl, sym, ap, ◌∙◌, subst}
 use Rattle.dl_lex.specs.declared.token.TokenKind.{TokenKind}
 use Rattle.dl_lex.specs.declared.token.TokenKind.TheVariants.{Open, Close, Equals, Caret, Iri, Text, Lang, Node, Short, Number, Word, End}
 use Rattle.dl_lex.specs.declared.token.Token.{Token}
@@ -16,7 +16,7 @@ use Rattle.dl_owl.specs.Expected.{Expected, prologue, prefix_name, prefix_equals
 use Rattle.dl_owl.specs.Steps.{move_of}
 use Rattle.dl_owl.specs.Reading.{fails, depth_after, is_too_deep, outcome_of, outcome}
 use Rattle.dl_owl.specs.Walk as walk
-use Rattle.dl_owl.specs.Walk.{Spot, symbol_at, Here, here, met_of, FromToken, Goes, FaultsBy, Faults}
+use Rattle.dl_owl.specs.Walk.{Spot, symbol_at, Here, here, met_of, FromToken, Goes, FaultsBy, Faults, Reads}
 
 -- ---- one after another
 
@@ -49,6 +49,12 @@ goes-faults e a f b fault first (inr by) =
       are = front.1.0;
       comes = front.1.1 ∙ by.comes;
     })
+
+-- what is read behind what was passed over
+pub reads_behind : {V : Type 0} (e f : (V → Expected) → Expected) (a b c : Here) (r : Result V OwlFault)
+    → ((k : V → Expected) → Goes (e k) a (f k) b) → Reads f b c r → Reads e a c r
+reads_behind e f a b c (Ok v) first h = λ k. goes-then (e k) a (f k) b (k v) c (first k) (h k)
+reads_behind e f a b c (Err fault) first h = λ k. goes-faults (e k) a (f k) b fault (first k) (h k)
 
 -- ---- what is expected in two ways that go on alike
 

@@ -1,5 +1,5 @@
 // The place in the tokens of an ontology at which its reader stands.
-ghost use Rattle.std.specs.Prelude.{◌≡◌, ◌+◌, ◌-◌, ◌≤◌, ◌↔◌, IsUtf8, IsTrue, false, List, length, slice_range};
+ghost use Rattle.std.specs.Prelude.{◌≡◌, ◌+◌, ◌-◌, ◌≤◌, ◌↔◌, IsUtf8, IsTrue, MatchOption, false, List, length, slice_range};
 ghost use Rattle.dl_lex.specs.Grammar.{IsTokenAt};
 ghost use Rattle.dl_names.specs.NameList.{Text};
 ghost use Rattle.dl_owl.specs.Prefixes.{Prefixes, prefix_of, local_of};
@@ -9,7 +9,7 @@ ghost use Rattle.dl_owl.specs.Reading.{is_too_deep, depth_after};
 ghost use Rattle.dl_owl.specs.Walk.{here, Advances, Passes};
 
 use crate::fault::OwlFault;
-use dl_lex::{LexFault, Lexer, Token, TokenKind};
+use dl_lex::{Keyword, LexFault, Lexer, Token, TokenKind};
 use std::marker::Model;
 
 /// The most parentheses that may be open.
@@ -122,6 +122,17 @@ impl<'a> Cursor<'a> {
         match self.token.kind {
             TokenKind::Node => true,
             _ => false,
+        }
+    }
+
+    /// The keyword that stands next, if one does.
+    pub(crate) fn keyword(&self) -> Option<Keyword>
+        ensures { MatchOption result ((w : Keyword) → self.now.token.kind ≡ TokenKind.Word w → ⊥)
+            (λ w. self.now.token.kind ≡ TokenKind.Word w) }
+    {
+        match self.token.kind {
+            TokenKind::Word(keyword) => Some(keyword),
+            _ => None,
         }
     }
 

@@ -1,22 +1,21 @@
 // Class expressions of a left side that stand next.
 ghost use Rattle.std.specs.Prelude.{◌≡◌, ◌↔◌, IsTrue};
 ghost use Rattle.dl_terms.specs.declared.role.Basic.TheVariants.{SomeOf};
-ghost use Rattle.dl_owl.specs.Causes.{fault_of};
-ghost use Rattle.dl_owl.specs.Expected.{open_then, close_then, role_then, thing_then};
-ghost use Rattle.dl_owl.specs.Refused.{refused_sub};
+ghost use Rattle.dl_owl.specs.Expected.{open_then, close_then, role_then, thing_then, sub_then};
 ghost use Rattle.dl_owl.specs.Walk.{here, Reads};
 
-use crate::class::thing;
+use crate::class::{named_class, thing};
 use crate::cursor::{Cursor, close, open};
-use crate::fault::{Construct, OwlFault};
+use crate::fault::OwlFault;
 use crate::prefixes::Prefixes;
+use crate::refused::refused_sub;
 use crate::role::role;
 use dl_lex::{Keyword, TokenKind};
 use dl_names::NameSet;
 use dl_terms::Basic;
 
 /// Whether `ObjectSomeValuesFrom` stands next.
-pub(crate) fn is_some(at: &Cursor) -> bool
+fn is_some(at: &Cursor) -> bool
     ensures { IsTrue result ↔ (at.now.token.kind ≡ TokenKind.Word Keyword.ObjectSomeValuesFrom) }
 {
     match at.kind() {
@@ -26,7 +25,7 @@ pub(crate) fn is_some(at: &Cursor) -> bool
 }
 
 /// What has a neighbour by a role, behind its keyword.
-pub(crate) fn some_of(
+fn some_of(
     at: &mut Cursor,
     prefixes: &Prefixes,
     names: &mut NameSet,
@@ -40,4 +39,26 @@ pub(crate) fn some_of(
     thing(at, prefixes, text)?;
     close(at)?;
     Ok(Basic::SomeOf(over))
+}
+
+/// The class expression of a left side that stands next.
+pub(crate) fn sub(
+    at: &mut Cursor,
+    prefixes: &Prefixes,
+    names: &mut NameSet,
+    text: &mut String,
+) -> Result<Basic, OwlFault>
+    ensures { Reads sub_then (here at.old prefixes.now names.old)
+        (here at.new prefixes.now names.new) result }
+{
+    let start = at.start();
+    if is_some(at) {
+        at.advance()?;
+        return some_of(at, prefixes, names, text);
+    }
+    if let Some(word) = at.keyword() {
+        return Err(refused_sub(word, start));
+    }
+    let class = named_class(at, prefixes, names, text)?;
+    Ok(Basic::Class(class))
 }

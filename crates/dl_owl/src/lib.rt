@@ -10,6 +10,7 @@ mod laws;
 mod left;
 mod name;
 mod prefixes;
+mod refused;
 mod role;
 mod text;
 

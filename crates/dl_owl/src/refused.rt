@@ -1,0 +1,44 @@
+// Keywords that may not stand where a class expression is expected, and the faults that they are.
+ghost use Rattle.std.specs.Prelude.{◌≡◌};
+ghost use Rattle.dl_owl.specs.Causes.{fault_of};
+ghost use Rattle.dl_owl.specs.Refused.{refused_sub, refused_sup};
+
+use crate::fault::{Construct, OwlFault};
+use dl_lex::Keyword;
+
+/// The fault of a keyword where a class expression of a right side is expected.
+pub(crate) fn refused_sup(word: Keyword, at: usize) -> OwlFault
+    ensures { result ≡ fault_of (refused_sup word) at }
+{
+    let what = Construct::Keyword(word);
+    match word {
+        Keyword::ObjectUnionOf
+        | Keyword::ObjectOneOf
+        | Keyword::ObjectAllValuesFrom
+        | Keyword::ObjectHasValue
+        | Keyword::ObjectHasSelf
+        | Keyword::ObjectMinCardinality
+        | Keyword::ObjectMaxCardinality
+        | Keyword::ObjectExactCardinality
+        | Keyword::DataAllValuesFrom
+        | Keyword::DataHasValue
+        | Keyword::DataMinCardinality
+        | Keyword::DataMaxCardinality
+        | Keyword::DataExactCardinality => OwlFault::NotQl { at, what },
+        Keyword::DataSomeValuesFrom => OwlFault::LeftOut { at, what },
+        _ => OwlFault::Syntax { at },
+    }
+}
+
+/// The fault of a keyword where one of a left side is expected.
+pub(crate) fn refused_sub(word: Keyword, at: usize) -> OwlFault
+    ensures { result ≡ fault_of (refused_sub word) at }
+{
+    match word {
+        Keyword::ObjectIntersectionOf | Keyword::ObjectComplementOf => OwlFault::NotQl {
+            at,
+            what: Construct::Keyword(word),
+        },
+        _ => refused_sup(word, at),
+    }
+}
