@@ -11,6 +11,7 @@ mod left;
 mod name;
 mod prefixes;
 mod refused;
+mod right;
 mod role;
 mod text;
 
