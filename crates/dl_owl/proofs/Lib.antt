@@ -20,3 +20,4 @@ pub mod SpanLemmas
 pub mod PrefixLemmas
 pub mod TakenLemmas
 pub mod ReaderLemmas
+pub mod AnnotationLemmas

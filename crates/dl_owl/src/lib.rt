@@ -1,6 +1,7 @@
 // Ontologies in OWL 2 QL: the functional-style syntax, and the text of an axiom.
 #![tactic(auto)]
 
+mod annotation;
 mod class;
 mod cursor;
 mod document;
