@@ -49,7 +49,8 @@ module _ (names : List Text) where
 
   abbrev pub role_text : Role → Text
   role_text r =
-      if r.inverse then construct_text keyword.ObjectInverseOf (iri_text (property_of r) ∷ []) else iri_text (property_of r)
+      if r.inverse then construct_text keyword.ObjectInverseOf (iri_text (property_of r) ∷ [])
+      else iri_text (property_of r)
 
   -- what has a neighbour by a role, in the class of this text
   abbrev pub some_text : Role → Text → Text

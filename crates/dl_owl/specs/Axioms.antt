@@ -101,7 +101,8 @@ module _ (p : Prefixes) where
         → IsIri p s owl_thing → IsIri p t text → is_free text ≡ true
         → OperandsThen ClassAssertion names (s ∷ t ∷ rest) no_effect rest names
     joined : {names one two after : List Text} {first rest : List Symbol} {r : Role} {s t : Symbol} {a b : ℕ}
-        → RoleThen p names first r (s ∷ t ∷ rest) one → IsNameOf p is_free one s a two → IsNameOf p is_free two t b after
+        → RoleThen p names first r (s ∷ t ∷ rest) one → IsNameOf p is_free one s a two
+        → IsNameOf p is_free two t b after
         → OperandsThen ObjectPropertyAssertion names first (fact_item (link r a b)) rest after
     different : {names : List Text} {first rest : List Symbol} {count : ℕ}
         → DifferentThen [] first count rest → 2 ≤ count

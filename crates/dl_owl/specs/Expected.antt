@@ -1,5 +1,5 @@
--- What a reader of an ontology expects next, and what it expects behind that. The grammar is LL(1) (Aho, Lam, Sethi, Ullman:
--- Compilers, 4.4): what is expected and the next token alone say how it goes on, or that it can't.
+-- What a reader of an ontology expects next, and what it expects behind that. The grammar is LL(1) (Aho, Lam, Sethi,
+-- Ullman: Compilers, 4.4): what is expected and the next token alone say how it goes on, or that it can't.
 use Rattle.std.specs.Prelude.{ℕ, Option, List}
 use Rattle.dl_names.specs.NameList.{Text}
 use Rattle.dl_terms.specs.declared.role.Role.{Role}

@@ -30,14 +30,16 @@ pub data TitleThen (p : Prefixes) : List Symbol → List Symbol → Type 0 where
       → TitleThen p (s ∷ t ∷ rest) rest
 
 -- axioms stand next, and then the rest; the document with what they add
-pub data AxiomsThen (p : Prefixes) : Document → List Text → List Symbol → Document → List Symbol → List Text → Type 0 where
+pub data AxiomsThen (p : Prefixes) : Document → List Text → List Symbol → Document → List Symbol → List Text
+    → Type 0 where
   none : {d : Document} {names : List Text} {rest : List Symbol} → AxiomsThen p d names rest d rest names
   more : {d whole : Document} {names one after : List Text} {first others rest : List Symbol} {item : Item}
       → AxiomThen p names first item others one → AxiomsThen p (with_item d item) one others whole rest after
       → AxiomsThen p d names first whole rest after
 
 -- the tokens are an ontology document of this value
-pub record IsOntology (names : List Text) (symbols : List Symbol) (document : Document) (after : List Text) : Type 0 where
+pub record IsOntology (names : List Text) (symbols : List Symbol) (document : Document) (after : List Text)
+    : Type 0 where
   pub prefixes : Prefixes
   pub title : List Symbol
   pub annotations : List Symbol
@@ -48,7 +50,8 @@ pub record IsOntology (names : List Text) (symbols : List Symbol) (document : Do
   pub read : AxiomsThen prefixes empty_document names axioms document (closing ∷ ending ∷ []) after
 
 -- the tokens are one axiom of this value
-pub record IsLoneAxiom (names : List Text) (symbols : List Symbol) (document : Document) (after : List Text) : Type 0 where
+pub record IsLoneAxiom (names : List Text) (symbols : List Symbol) (document : Document) (after : List Text)
+    : Type 0 where
   pub item : Item
   pub read : AxiomThen predefined names symbols item (ending ∷ []) after
   pub is : document ≡ with_item empty_document item

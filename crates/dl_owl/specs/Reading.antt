@@ -65,7 +65,8 @@ last_outcome _ met = unfinished
 -- what reading the tokens gives, where this is expected first
 abbrev pub outcome : Expected → Met → List Placed → Outcome
 outcome e met [] = last_outcome e met
-outcome e met (t ∷ tokens) = outcome_of met t (λ next later. outcome next later tokens) (move_of met.prefixes e t.symbol)
+outcome e met (t ∷ tokens) =
+    outcome_of met t (λ next later. outcome next later tokens) (move_of met.prefixes e t.symbol)
 
 -- no more parentheses are open anywhere than may be, where so many are open before
 abbrev pub is_shallow : ℕ → List Symbol → Bool
@@ -91,7 +92,8 @@ abbrev pub start : List Text → Met
 start names = record { prefixes = predefined; names = names; depth = 0 }
 
 -- reading the bytes gives this value, and these names after it
-pub record ReadsValue (bytes : List ℕ) (e : Expected) (names : List Text) (document : Document) (after : List Text) : Type 0 where
+pub record ReadsValue (bytes : List ℕ) (e : Expected) (names : List Text) (document : Document) (after : List Text)
+    : Type 0 where
   pub tokens : List Placed
   pub are : AreTokens bytes true 0 tokens
   pub comes : outcome e (start names) tokens ≡ gives document after

@@ -98,8 +98,10 @@ axiom_next k (keyword ObjectPropertyDomain) =
     begins (role_and_sup (λ r ps. close_then (k (axiom_item (axioms.Domain r ps)))))
 axiom_next k (keyword ObjectPropertyRange) =
     begins (role_and_sup (λ r ps. close_then (k (axiom_item (axioms.Range r ps)))))
-axiom_next k (keyword SymmetricObjectProperty) = begins (role_then (λ r. close_then (k (axiom_item (axioms.Symmetric r)))))
-axiom_next k (keyword AsymmetricObjectProperty) = begins (role_then (λ r. close_then (k (axiom_item (axioms.Asymmetric r)))))
+axiom_next k (keyword SymmetricObjectProperty) =
+    begins (role_then (λ r. close_then (k (axiom_item (axioms.Symmetric r)))))
+axiom_next k (keyword AsymmetricObjectProperty) =
+    begins (role_then (λ r. close_then (k (axiom_item (axioms.Asymmetric r)))))
 axiom_next k (keyword IrreflexiveObjectProperty) =
     begins (role_then (λ r. close_then (k (axiom_item (axioms.Irreflexive r)))))
 axiom_next k (keyword ClassAssertion) = begins (class_then (member_then k))
@@ -181,7 +183,8 @@ module _ (p : Prefixes) where
   abbrev pub second_role_next : (Role → Expected) → Expected → Symbol → Move
   second_role_next k e (keyword ObjectInverseOf) = role_next k (keyword ObjectInverseOf)
   second_role_next k e s =
-      at_iri p s (λ text. if bytes_eq owl_top_object_property text then goes e else name_next is_free text (λ n. k (named n)))
+      at_iri p s (λ text.
+      if bytes_eq owl_top_object_property text then goes e else name_next is_free text (λ n. k (named n)))
       (refuses syntax)
 
   abbrev pub sub_next : (Basic → Expected) → Symbol → Move
@@ -207,7 +210,8 @@ module _ (p : Prefixes) where
   -- of a right side it is owl:Thing or a class
   abbrev pub filler_next : Role → (Part → Expected) → Symbol → Move
   filler_next r k s =
-      class_or_thing p (goes (k (part.Any r))) (λ c. k (part.Fill r c)) (refuses (refused_class ObjectSomeValuesFrom s)) s
+      class_or_thing p (goes (k (part.Any r))) (λ c. k (part.Fill r c))
+      (refuses (refused_class ObjectSomeValuesFrom s)) s
 
   abbrev pub individual_next : (ℕ → Expected) → Symbol → Move
   individual_next k s = named_next p is_free k (refuses (refused_individual s)) s

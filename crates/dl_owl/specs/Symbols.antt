@@ -1,4 +1,5 @@
--- The tokens of a text, as the grammar of the OWL 2 functional-style syntax sees them: what each says, and where it begins.
+-- The tokens of a text, as the grammar of the OWL 2 functional-style syntax sees them: what each says, and where it
+-- begins.
 use Rattle.std.specs.Prelude.{◌≡◌, ◌≢◌, ℕ, ◌-◌, Bool, false, List, [], ◌∷◌, length, map, slice_range}
 use Rattle.dl_lex.specs.declared.keyword.Keyword.{Keyword}
 use Rattle.dl_lex.specs.declared.token.TokenKind.{TokenKind}

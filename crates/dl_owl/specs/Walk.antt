@@ -41,9 +41,11 @@ met_of h = record { prefixes = h.prefixes; names = h.names; depth = h.spot.depth
 -- these are the tokens from this one on
 pub data FromToken (bytes : List ℕ) (all : Bool) (t : Token) : List Placed → Type 0 where
   last : t.kind ≡ End → FromToken bytes all t (placed bytes t ∷ [])
-  more : {rest : List Placed} → t.kind ≢ End → AreTokens bytes all t.end rest → FromToken bytes all t (placed bytes t ∷ rest)
+  more : {rest : List Placed} → t.kind ≢ End → AreTokens bytes all t.end rest
+      → FromToken bytes all t (placed bytes t ∷ rest)
 
--- where this is expected here, that is expected there: whatever tokens stand there, with those before them they come to the same
+-- where this is expected here, that is expected there: whatever tokens stand there, with those before them they come to
+-- the same
 pub record Goes (e : Expected) (from : Here) (later : Expected) (to : Here) : Type 0 where
   pub same : to.spot.bytes ≡ from.spot.bytes
   pub on : (all : Bool) (rest : List Placed) → FromToken from.spot.bytes all to.spot.token rest

@@ -8,8 +8,8 @@ ghost use Rattle.dl_owl.specs.Expected.{Expected, prologue, lone_axiom};
 ghost use Rattle.dl_owl.specs.Ontologies.{IsOntology, IsLoneAxiom};
 ghost use Rattle.dl_owl.specs.Reading.{Met, fails, unfinished, gives, outcome, is_shallow, start, FailsAt, ReadsValue, ReadsFault};
 
-/// A law: reading gives a value exactly where the plain grammar has it, at most 64 parentheses are open anywhere and the
-/// names fit.
+/// A law: reading gives a value exactly where the plain grammar has it, at most 64 parentheses are open anywhere and
+/// the names fit.
 pub fn values_are_those_of_the_grammar()
     ensures ontology { (names after : List Text) (tokens : List Placed) (document : Document) → length names ≤ max_names
         → (outcome prologue (start names) tokens ≡ gives document after)
@@ -21,8 +21,8 @@ pub fn values_are_those_of_the_grammar()
         × ((is_shallow 0 (symbols_of tokens) ≡ true) × (length after ≤ max_names))) }
 {}
 
-/// A law: a fault is told by the tokens up to the faulty one alone: before it there is none, and whatever follows it, the
-/// fault is the same. So no text that goes on from there has a value.
+/// A law: a fault is told by the tokens up to the faulty one alone: before it there is none, and whatever follows it,
+/// the fault is the same. So no text that goes on from there has a value.
 pub fn faults_come_at_their_tokens()
     ensures { (e : Expected) (met : Met) (tokens : List Placed) (cause : Cause) (at : ℕ)
         → outcome e met tokens ≡ fails cause at → FailsAt e met tokens cause at }

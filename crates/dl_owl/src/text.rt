@@ -77,7 +77,8 @@ fn push_role(out: &mut String, role: Role, names: &Names) -> Result<(), AllocErr
 fn push_some(out: &mut String, role: Role, names: &Names) -> Result<(), AllocError>
     requires { AreBelow (length names.now) (role_names role) }
     ensures { OnOk result (string_bytes out.new ≡
-        string_bytes out.old ++ (keyword_text Keyword.ObjectSomeValuesFrom ++ 40 ∷ role_text names.now role ++ 32 ∷ [])) }
+        string_bytes out.old
+        ++ (keyword_text Keyword.ObjectSomeValuesFrom ++ 40 ∷ role_text names.now role ++ 32 ∷ [])) }
 {
     push_open(out, Keyword::ObjectSomeValuesFrom)?;
     push_role(out, role, names)?;
