@@ -45,7 +45,7 @@ pub fn run<R: AllocGlobal + Print>(rt: &R, words: &[String]) -> io::Result<bool>
     Ok(true)
 }
 
-// The hierarchy, or none where it has too many names.
+/// The hierarchy, or none where it has too many names.
 fn hier_of(
     alloc: Global,
     shape: &str,
@@ -68,7 +68,7 @@ fn hier_of(
     Ok(Some(hier))
 }
 
-// The names of the inclusions: each number is a class, and each even one an object property.
+/// The names of the inclusions: each number is a class, and each even one an object property.
 fn signature_of(alloc: Global, names: u32) -> Result<Signature, NoMemory> {
     let mut classes = List::new(alloc);
     let mut roles = List::new(alloc);
@@ -81,7 +81,7 @@ fn signature_of(alloc: Global, names: u32) -> Result<Signature, NoMemory> {
     Ok(Signature { classes, roles })
 }
 
-// The role of a number: an even one is an object property, and an odd one the filler of the property before it.
+/// The role of a number: an even one is an object property, and an odd one the filler of the property before it.
 fn role_of(number: u32, inverse: bool) -> Role {
     let base = if number % 2 == 0 {
         Base::Named(number)
@@ -95,7 +95,7 @@ fn role_of(number: u32, inverse: bool) -> Role {
     Role { base, inverse }
 }
 
-// The basic concept of a number: a class, or "some" of a role.
+/// The basic concept of a number: a class, or "some" of a role.
 fn basic_of(number: u32, some: bool) -> Basic {
     if some {
         Basic::SomeOf(role_of(number, false))
@@ -104,8 +104,8 @@ fn basic_of(number: u32, some: bool) -> Basic {
     }
 }
 
-// The two ends of an inclusion: in a deep tree from a number to the one before, in a wide one to the first; later
-// ones are far apart, all to smaller numbers, or in a tangle any way.
+/// The two ends of an inclusion: in a deep tree from a number to the one before, in a wide one to the first; later
+/// ones are far apart, all to smaller numbers, or in a tangle any way.
 fn ends_of(shape: &str, names: u32, i: u32) -> (u32, u32)
     requires { 0 < names }
     ensures within { result.0 < names }
@@ -157,7 +157,7 @@ fn concept_rows(
     Ok(rows)
 }
 
-// How often one of two is below the other, of as many pairs of roles and of basic concepts as asks.
+/// How often one of two is below the other, of as many pairs of roles and of basic concepts as asks.
 fn ask(hier: &Hier, names: u32, asks: u32) -> u32
     requires { 0 < names }
 {

@@ -72,7 +72,7 @@ pub(crate) fn roles_reached(
     Ok(found)
 }
 
-// Whether a chain leads to one of the targets.
+/// Whether a chain leads to one of the targets.
 fn leads_to_one_of(closure: &Closure, node: u32, targets: &[u32]) -> bool
     requires node { node < closure.now.nodes }
     requires targets { All (λ t. t < closure.now.nodes) targets.now }

@@ -86,7 +86,7 @@ pub(crate) fn closure_of(
     }
 }
 
-// The node of a role of the hierarchy.
+/// The node of a role of the hierarchy.
 fn node_of_role(nodes: &Nodes, role: Role) -> u32
     requires { Contains (roles nodes.now) role }
     ensures { StandsAt (roles nodes.now) result role }
@@ -94,7 +94,7 @@ fn node_of_role(nodes: &Nodes, role: Role) -> u32
     nodes.role(role).unwrap()
 }
 
-// The node of a basic concept of the hierarchy.
+/// The node of a basic concept of the hierarchy.
 fn node_of_basic(nodes: &Nodes, basic: Basic) -> u32
     requires { Contains (basics nodes.now) basic }
     ensures { StandsAt (basics nodes.now) result basic }

@@ -27,7 +27,7 @@ pub fn fits(alloc: Global, normal: &Normal, signature: &Signature) -> Result<boo
     Ok(knows_basics(&nodes, normal.concepts.as_slice()))
 }
 
-// Whether classes, object properties and fillers together are at most `MAX_PREDICATES`.
+/// Whether classes, object properties and fillers together are at most `MAX_PREDICATES`.
 fn are_few(alloc: Global, normal: &Normal, signature: &Signature) -> Result<bool, NoMemory>
     ensures { IfOk result (λ few. IsTrue few ↔ AreFew signature.now normal.now) }
 {
@@ -39,7 +39,7 @@ fn are_few(alloc: Global, normal: &Normal, signature: &Signature) -> Result<bool
     Ok(names.saturating_add(fillers.len()) <= MAX_PREDICATES)
 }
 
-// Whether both roles of each row are in the hierarchy.
+/// Whether both roles of each row are in the hierarchy.
 fn knows_roles(nodes: &Nodes, rows: &[(Role, Role)]) -> bool
     ensures { IsTrue result ↔
         All (λ p. Contains (roles nodes.now) p.0 × Contains (roles nodes.now) p.1) rows.now }
@@ -52,7 +52,7 @@ fn knows_roles(nodes: &Nodes, rows: &[(Role, Role)]) -> bool
     true
 }
 
-// Whether both basic concepts of each row are in the hierarchy.
+/// Whether both basic concepts of each row are in the hierarchy.
 fn knows_basics(nodes: &Nodes, rows: &[(Basic, Basic)]) -> bool
     ensures { IsTrue result ↔
         All (λ p. Contains (basics nodes.now) p.0 × Contains (basics nodes.now) p.1) rows.now }

@@ -205,7 +205,7 @@ impl Hier {
     }
 }
 
-// The nodes of those basic concepts that are in the hierarchy.
+/// The nodes of those basic concepts that are in the hierarchy.
 fn targets(alloc: Global, nodes: &Nodes, terms: &[Basic]) -> Result<Vec<u32>, AllocError>
     ensures { IfOk result (λ targets. AreTargets (basics nodes.now) terms.now targets.items) }
 {
@@ -219,7 +219,7 @@ fn targets(alloc: Global, nodes: &Nodes, terms: &[Basic]) -> Result<Vec<u32>, Al
     Ok(targets)
 }
 
-// The node of a role that is in the hierarchy.
+/// The node of a role that is in the hierarchy.
 fn role_targets(alloc: Global, nodes: &Nodes, role: Role) -> Result<Vec<u32>, AllocError>
     ensures { IfOk result (λ targets. AreTargets (roles nodes.now) (role ∷ []) targets.items) }
 {

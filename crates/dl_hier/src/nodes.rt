@@ -102,7 +102,7 @@ impl Nodes {
         }
     }
 
-    // The index of a role name among the properties and the fillers behind them.
+    /// The index of a role name among the properties and the fillers behind them.
     fn base(&self, base: Base) -> Option<u32>
         ensures index { MatchOption result (Contains (bases self.now) base → ⊥)
             (λ i. StandsAt (bases self.now) i base) }

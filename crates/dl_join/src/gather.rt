@@ -63,7 +63,7 @@ impl Gathered {
         }
     }
 
-    // How a tuple compares with the last that is known: greater where none is.
+    /// How a tuple compares with the last that is known: greater where none is.
     fn compare_last(&mut self, tuple: &[u32]) -> Result<Ordering, AllocError>
         requires { IsGathered self.old }
         ensures known { self.new.known ≡ self.old.known }
@@ -79,7 +79,7 @@ impl Gathered {
         Ok(tuple.cmp(self.last.as_slice()))
     }
 
-    // Adds a tuple that is after all that are known.
+    /// Adds a tuple that is after all that are known.
     fn add_known(&mut self, tuple: &[u32]) -> Result<(), JoinFault>
         requires valid { IsGathered self.old }
         requires width { length tuple.now ≡ self.old.known.width }
@@ -95,7 +95,7 @@ impl Gathered {
         Ok(())
     }
 
-    // Adds a tuple to the fresh ones, which are made known where they are as many as these.
+    /// Adds a tuple to the fresh ones, which are made known where they are as many as these.
     fn add_fresh(&mut self, tuple: Vec<u32>) -> Result<(), JoinFault>
         requires valid { IsGathered self.old }
         requires width { length tuple.items ≡ self.old.known.width }
@@ -119,7 +119,7 @@ impl Gathered {
         Ok(())
     }
 
-    // Makes the fresh tuples known.
+    /// Makes the fresh tuples known.
     fn settle(&mut self) -> Result<(), JoinFault>
         requires { IsGathered self.old }
         ensures ok { OnOk result (Gathers (λ t. ⊥) self.old self.new) }
@@ -149,7 +149,7 @@ impl Gathered {
     }
 }
 
-// Tuples of one width as a set.
+/// Tuples of one width as a set.
 fn batch_of(alloc: Global, width: u32, fresh: List<List<u32>>) -> Result<Tuples, NoMemory>
     requires { All (λ tuple. length tuple ≡ width) fresh }
     ensures width { IfOk result (λ batch. batch.width ≡ width) }
@@ -163,14 +163,14 @@ fn batch_of(alloc: Global, width: u32, fresh: List<List<u32>>) -> Result<Tuples,
     Ok(batch)
 }
 
-// The names that the terms of a head of names are.
+/// The names that the terms of a head of names are.
 fn names_of(alloc: Global, head: &[Term]) -> Result<Vec<u32>, AllocError>
     ensures { IfOk result (λ names. names.items ≡ map name_or_zero head.now) }
 {
     head.iter().map(|term| name_of(*term)).collect(alloc)
 }
 
-// The name that a term of a head of names is.
+/// The name that a term of a head of names is.
 fn name_of(term: Term) -> u32
     ensures { result ≡ name_or_zero term }
 {

@@ -60,7 +60,7 @@ pub fn join(
     gathered.finish()
 }
 
-// True where a probe without variables doesn't hold.
+/// True where a probe without variables doesn't hold.
 fn some_fails(probes: &[Probe], lists: &[List<Pair>]) -> bool
     requires lists { length lists.now ≡ length probes.now }
     requires ascending { All (AreAscending First) lists.now }
@@ -77,7 +77,7 @@ fn some_fails(probes: &[Probe], lists: &[List<Pair>]) -> bool
     false
 }
 
-// The pairs kept of each probe.
+/// The pairs kept of each probe.
 fn kept_lists(
     alloc: Global,
     probes: &[Probe],
@@ -93,7 +93,7 @@ fn kept_lists(
     Ok(made)
 }
 
-// The needs of the probes that have variables.
+/// The needs of the probes that have variables.
 fn needs_of<'a>(
     alloc: Global,
     probes: &[Probe],

@@ -6,8 +6,8 @@ ghost use Rattle.dl_join.specs.Needs.{IsAscending, Allows, Stands, AreMoved, Add
 use crate::need::{Column, Need, moved, name_in, passed};
 use std::alloc::AllocError;
 
-// Moves each need to the first name that is at least the bound, which rises to that name.
-// None where a need has no such name.
+/// Moves each need to the first name that is at least the bound, which rises to that name.
+/// None where a need has no such name.
 fn raise(needs: &mut [Need<'_>], from: u64) -> Option<u64>
     requires { All IsAscending needs.old }
     ensures count { length needs.new ≡ length needs.old }

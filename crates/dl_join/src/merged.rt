@@ -22,8 +22,8 @@ pub fn copy_tuple(tuples: &Tuples, i: u64, copy: &mut Vec<u32>) -> Result<(), Al
     Ok(())
 }
 
-// Which of two lists has the next tuple of the union, from an index of each on: the first one where it is less, the
-// second where it is greater, both where it is equal. It is copied, for the first into `left`, else into `right`.
+/// Which of two lists has the next tuple of the union, from an index of each on: the first one where it is less, the
+/// second where it is greater, both where it is equal. It is copied, for the first into `left`, else into `right`.
 fn next(
     one: &Tuples,
     i: u64,
@@ -35,7 +35,8 @@ fn next(
     requires one { i ≤ length one.now.tuples }
     requires two { j ≤ length two.now.tuples }
     requires some { i ≡ length one.now.tuples → j < length two.now.tuples }
-    ensures next { IfOk result (λ order. IsNext order one.now.tuples i two.now.tuples j left.new.items right.new.items) }
+    ensures next { IfOk result (λ order.
+        IsNext order one.now.tuples i two.now.tuples j left.new.items right.new.items) }
     ensures width { IfOk result (λ order.
         FitsWidth order one.now.width two.now.width left.new.items right.new.items) }
 {

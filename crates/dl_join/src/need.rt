@@ -44,7 +44,7 @@ pub fn passed(pairs: &[Pair], column: Column, bound: u64) -> usize
     halve(pairs, column, bound, low, high)
 }
 
-// Steps that double, from the front on, as long as they land below the bound.
+/// Steps that double, from the front on, as long as they land below the bound.
 fn leap(pairs: &[Pair], column: Column, bound: u64) -> (usize, usize)
     requires { IsNonDecreasingBy (in_column column) pairs.now }
     ensures order { result.0 ≤ result.1 }
@@ -65,7 +65,7 @@ fn leap(pairs: &[Pair], column: Column, bound: u64) -> (usize, usize)
     (low, pairs.len())
 }
 
-// The place between the pairs below the bound and the others, which is between two places.
+/// The place between the pairs below the bound and the others, which is between two places.
 fn halve(pairs: &[Pair], column: Column, bound: u64, least: usize, most: usize) -> usize
     requires ascending { IsNonDecreasingBy (in_column column) pairs.now }
     requires order { least ≤ most }

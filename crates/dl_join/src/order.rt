@@ -21,7 +21,7 @@ pub fn order_of(alloc: Global, needs: &[Need<'_>]) -> Result<Vec<u8>, AllocError
     Ok(order)
 }
 
-// Adds a variable that isn't there yet.
+/// Adds a variable that isn't there yet.
 fn add(order: &mut Vec<u8>, var: u8) -> Result<(), AllocError>
     ensures there { OnOk result (Contains order.new.items var) }
     ensures kept { OnOk result ((v : ℕ) → Contains order.old.items v → Contains order.new.items v) }
@@ -44,7 +44,7 @@ fn has(vars: &[u8], var: u8) -> bool
     false
 }
 
-// The variables of needs, as often as they stand there.
+/// The variables of needs, as often as they stand there.
 fn variables_of(alloc: Global, needs: &[Need<'_>]) -> Result<Vec<u8>, AllocError>
     ensures { IfOk result (λ vars. OrdersAll vars.items needs.now) }
 {
@@ -65,7 +65,7 @@ fn push_variables(vars: &mut Vec<u8>, need: &Need<'_>) -> Result<(), AllocError>
     Ok(())
 }
 
-// Where the variable stands that comes next.
+/// Where the variable stands that comes next.
 fn place_of_next(needs: &[Need<'_>], before: &[u8], waiting: &[u8]) -> usize
     requires { 0 < length waiting.now }
     ensures { result < length waiting.now }
@@ -82,8 +82,8 @@ fn place_of_next(needs: &[Need<'_>], before: &[u8], waiting: &[u8]) -> usize
     place
 }
 
-// What is smaller comes first: whether no need joins the variable with one before, the length of its smallest
-// list, and its number.
+/// What is smaller comes first: whether no need joins the variable with one before, the length of its smallest
+/// list, and its number.
 fn rank(needs: &[Need<'_>], before: &[u8], var: u8) -> (bool, usize, u8) {
     let mut apart = true;
     let mut size = usize::MAX;

@@ -12,7 +12,7 @@ use crate::need::{Column, Need, passed};
 use dl_terms::{List, Pair, Probe, Term};
 use std::alloc::{AllocError, Global};
 
-// The pairs whose first name is this one.
+/// The pairs whose first name is this one.
 fn run_of(pairs: &[Pair], name: u32) -> &[Pair]
     requires { AreAscending First pairs.now }
     ensures members { (p : ℕ × ℕ) → Contains result.now p ↔ (Contains pairs.now p × (p.0 ≡ name)) }
@@ -24,7 +24,7 @@ fn run_of(pairs: &[Pair], name: u32) -> &[Pair]
     &others[..high]
 }
 
-// True where a pair of a run has this second name.
+/// True where a pair of a run has this second name.
 fn has_second(run: &[Pair], name: u32) -> bool
     requires { AreAscending Second run.now }
     ensures found { IsTrue result → (first : ℕ) × Contains run.now (first, name) }
@@ -191,7 +191,7 @@ fn role_need_from<'a>(v: u8, to: Term, pairs: &'a [Pair], kept: &'a [Pair]) -> N
     }
 }
 
-// The need of a variable's name in the first column.
+/// The need of a variable's name in the first column.
 fn first_need<'a>(var: u8, pairs: &'a [Pair]) -> Need<'a>
     ensures at { result.at ≡ var }
     ensures other { result.other ≡ None }

@@ -19,7 +19,7 @@ pub fn is_safe(disjunct: &Disjunct) -> bool
     true
 }
 
-// True where a probe has a variable.
+/// True where a probe has a variable.
 fn some_has(probes: &[Probe], v: u8) -> bool
     ensures { IsTrue result ↔ Any (HasVariable v) probes.now }
 {

@@ -31,7 +31,7 @@ impl<'a> Room<'a> {
         }
     }
 
-    // Divides needs into those of a variable and those of later ones.
+    /// Divides needs into those of a variable and those of later ones.
     fn fill(&mut self, needs: &[Need<'a>], var: u8) -> Result<(), AllocError>
         ensures active { OnOk result (self.new.active.items ≡ filter (λ n. n.at == var) needs.now) }
         ensures later { OnOk result (self.new.later.items ≡ filter (λ n. not (n.at == var)) needs.now) }
@@ -41,7 +41,7 @@ impl<'a> Room<'a> {
         divide(needs, var, &mut self.active, &mut self.later)
     }
 
-    // The least name, from a number on, that each need of the variable allows.
+    /// The least name, from a number on, that each need of the variable allows.
     fn next(&mut self, from: u64) -> Option<u32>
         requires ascending { All IsAscending self.old.active.items }
         requires some { 0 < length self.old.active.items }
@@ -56,7 +56,7 @@ impl<'a> Room<'a> {
         meet(self.active.as_mut_slice(), from)
     }
 
-    // Leaves of the later needs the first ones, and adds what is asked at a name; names the head.
+    /// Leaves of the later needs the first ones, and adds what is asked at a name; names the head.
     fn enter(&mut self, kept: usize, head: &[Term], var: u8, name: u32) -> Result<(), AllocError>
         requires { All (Stands name name) self.old.active.items }
         ensures active { OnOk result (self.new.active.items ≡ self.old.active.items) }
@@ -70,7 +70,7 @@ impl<'a> Room<'a> {
     }
 }
 
-// The head with a name for a variable.
+/// The head with a name for a variable.
 fn name_head(head: &[Term], var: u8, name: u32, copy: &mut Vec<Term>) -> Result<(), AllocError>
     ensures { OnOk result (copy.new.items ≡ map (named var name) head.now) }
 {
@@ -81,7 +81,7 @@ fn name_head(head: &[Term], var: u8, name: u32, copy: &mut Vec<Term>) -> Result<
     Ok(())
 }
 
-// A term with a name for a variable.
+/// A term with a name for a variable.
 fn name_term(term: Term, var: u8, name: u32) -> Term
     ensures { result ≡ named var name term }
 {
@@ -97,7 +97,7 @@ fn name_term(term: Term, var: u8, name: u32) -> Term
     }
 }
 
-// True where a head has no variable.
+/// True where a head has no variable.
 fn is_closed(head: &[Term]) -> bool
     ensures { IsTrue result → All IsName head.now }
 {
@@ -146,7 +146,7 @@ pub fn search<'a>(
     Ok(found)
 }
 
-// Gathers the tuples for each name of a variable.
+/// Gathers the tuples for each name of a variable.
 #[cycle(search)]
 fn each_name<'a>(
     alloc: Global,

@@ -9,7 +9,7 @@ use crate::order::is_before;
 use dl_terms::{List, Pair, set_of};
 use std::alloc::{AllocError, Global};
 
-// The other variable of a need, where it is met first.
+/// The other variable of a need, where it is met first.
 fn backward(order: &[u8], need: &Need<'_>) -> Option<u8>
     ensures some { IfSome result (λ w. IsBackward order.now need.now w) }
     ensures none { IfNone result ((w : ℕ) → need.now.other ≡ Some w
@@ -22,7 +22,7 @@ fn backward(order: &[u8], need: &Need<'_>) -> Option<u8>
     Some(other)
 }
 
-// The pairs turned, sorted.
+/// The pairs turned, sorted.
 fn turned(alloc: Global, pairs: &[Pair]) -> Result<List<Pair>, AllocError>
     ensures { IfOk result (λ list. AreTurned pairs.now list) }
 {

@@ -20,7 +20,7 @@ pub fn fillers(alloc: Global, axioms: &[Axiom]) -> Result<u64, NoMemory>
     Ok(set_of(pairs).len() as u64)
 }
 
-// Adds the pairs of an axiom.
+/// Adds the pairs of an axiom.
 fn push_filled(pairs: &mut List<(Role, u32)>, axiom: &Axiom) -> Result<(), NoMemory>
     ensures { OnOk result (pairs.new ≡ pairs.old ++ filter_map filled (parts_of «axiom».now)) }
 {
@@ -32,7 +32,7 @@ fn push_filled(pairs: &mut List<(Role, u32)>, axiom: &Axiom) -> Result<(), NoMem
     }
 }
 
-// Adds the pairs of parts.
+/// Adds the pairs of parts.
 fn push_filled_parts(pairs: &mut List<(Role, u32)>, parts: &[Part]) -> Result<(), NoMemory>
     ensures { OnOk result (pairs.new ≡ pairs.old ++ filter_map filled parts.now) }
 {
@@ -42,7 +42,7 @@ fn push_filled_parts(pairs: &mut List<(Role, u32)>, parts: &[Part]) -> Result<()
     Ok(())
 }
 
-// Adds the pair of a part that has one.
+/// Adds the pair of a part that has one.
 fn push_filled_part(pairs: &mut List<(Role, u32)>, part: Part) -> Result<(), NoMemory>
     ensures { OnOk result (pairs.new ≡ pairs.old ++ option_to_list (filled part)) }
 {

@@ -31,7 +31,7 @@ pub fn normal(alloc: Global, axioms: &[Axiom]) -> Result<Normal, NoMemory>
     Ok(normal)
 }
 
-// Adds the rows of the axiom at an index.
+/// Adds the rows of the axiom at an index.
 fn push_axiom(normal: &mut Normal, index: u32, axiom: &Axiom) -> Result<(), NoMemory>
     ensures { OnOk result (Gains index (axiom_rows «axiom».now) normal.old normal.new) }
 {
@@ -65,7 +65,7 @@ fn push_axiom(normal: &mut Normal, index: u32, axiom: &Axiom) -> Result<(), NoMe
     }
 }
 
-// Adds that each of two roles is in the other.
+/// Adds that each of two roles is in the other.
 fn push_both(roles: &mut List<(Role, Role)>, one: Role, two: Role) -> Result<(), NoMemory>
     ensures { OnOk result (roles.new ≡ roles.old ++ (one, two) ∷ (two, one) ∷ []) }
 {
@@ -73,7 +73,7 @@ fn push_both(roles: &mut List<(Role, Role)>, one: Role, two: Role) -> Result<(),
     roles.push((two, one))
 }
 
-// Adds that a basic concept is in each of the parts.
+/// Adds that a basic concept is in each of the parts.
 fn push_parts(normal: &mut Normal, index: u32, sub: Basic, parts: &[Part]) -> Result<(), NoMemory>
     ensures { OnOk result (Gains index (flat_map (part_rows sub) parts.now) normal.old normal.new) }
 {
@@ -83,7 +83,7 @@ fn push_parts(normal: &mut Normal, index: u32, sub: Basic, parts: &[Part]) -> Re
     Ok(())
 }
 
-// Adds that a basic concept is in a part.
+/// Adds that a basic concept is in a part.
 fn push_part(normal: &mut Normal, index: u32, sub: Basic, part: Part) -> Result<(), NoMemory>
     ensures { OnOk result (Gains index (part_rows sub part) normal.old normal.new) }
 {
@@ -96,7 +96,7 @@ fn push_part(normal: &mut Normal, index: u32, sub: Basic, part: Part) -> Result<
     }
 }
 
-// Adds that a basic concept is in "some role in class", by the filler of the two.
+/// Adds that a basic concept is in "some role in class", by the filler of the two.
 fn push_fill(
     normal: &mut Normal,
     index: u32,

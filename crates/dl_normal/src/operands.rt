@@ -64,7 +64,7 @@ pub(crate) fn push_pairs<T: Operand>(
     Ok(())
 }
 
-// Adds that an item is disjoint from each of others.
+/// Adds that an item is disjoint from each of others.
 fn push_disjoint<T: Operand>(
     negatives: &mut List<(u32, Negative)>,
     index: u32,

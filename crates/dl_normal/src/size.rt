@@ -18,7 +18,7 @@ pub fn weight(axioms: &[Axiom]) -> u64
     total
 }
 
-// How many rows an axiom has, at most 2^64 - 1.
+/// How many rows an axiom has, at most 2^64 - 1.
 fn count_of_rows(axiom: &Axiom) -> u64
     ensures { result ≡ min (length (axiom_rows «axiom».now)) (2 ^ 64 - 1) }
 {
@@ -38,7 +38,7 @@ fn count_of_rows(axiom: &Axiom) -> u64
     }
 }
 
-// How many rows the parts of a right side have, at most 2^64 - 1. The left side doesn't matter.
+/// How many rows the parts of a right side have, at most 2^64 - 1. The left side doesn't matter.
 fn count_of_part_rows(parts: &[Part]) -> u64
     ensures { (b : Basic) → result ≡ min (length (flat_map (part_rows b) parts.now)) (2 ^ 64 - 1) }
 {
@@ -49,7 +49,7 @@ fn count_of_part_rows(parts: &[Part]) -> u64
     total
 }
 
-// How many rows a part has. The left side doesn't matter.
+/// How many rows a part has. The left side doesn't matter.
 fn count_of_rows_of(part: &Part) -> u64
     ensures { (b : Basic) → result ≡ length (part_rows b part.now) }
 {
@@ -60,7 +60,7 @@ fn count_of_rows_of(part: &Part) -> u64
     }
 }
 
-// How many pairs so many operands have, at most 2^64 - 1.
+/// How many pairs so many operands have, at most 2^64 - 1.
 fn count_of_pairs(operands: u64) -> u64
     ensures { result ≡ min (operands * (operands - 1) / 2) (2 ^ 64 - 1) }
 {

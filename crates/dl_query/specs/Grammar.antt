@@ -76,7 +76,8 @@ pub data IsBody : Met → List Symbol → Met → Type 0 where
 pub data VariablesThen : Met → List Symbol → List Symbol → Met → Type 0 where
   last_variable : {m : Met} {x : Text} {rest : List Symbol}
       → VariablesThen m (variable x ∷ mark Closing ∷ rest) rest (with_head m x)
-  more_variables : {m after : Met} {x : Text} {others rest : List Symbol} → VariablesThen (with_head m x) others rest after
+  more_variables : {m after : Met} {x : Text} {others rest : List Symbol}
+      → VariablesThen (with_head m x) others rest after
       → VariablesThen m (variable x ∷ mark Comma ∷ others) rest after
 
 -- the same, or no variable

@@ -82,7 +82,8 @@ pub record AreNumbers (head : List ℕ) (count : ℕ) : Type 0 where
   pub fits : count ≤ length head
 
 -- a variable is added to the head
-pub record Adds (head : List ℕ) (variables : List Text) (x : Text) (head' : List ℕ) (variables' : List Text) : Type 0 where
+pub record Adds (head : List ℕ) (variables : List Text) (x : Text) (head' : List ℕ) (variables' : List Text)
+    : Type 0 where
   pub met : variables' ≡ names_after variables x
   pub added : head' ≡ head ++ place_of (names_after variables x) x ∷ []
 
@@ -113,7 +114,8 @@ pub record Keeps (body : Body) (atoms : List Atom) (variables heads : ℕ) : Typ
 -- behind these variables and names a body is read to the end, and this is kept of it
 pub record ReadsBody (tokens : Tokens) (variables names variables' names' : List Text) (body : Body) : Type 0 where
   pub atoms : List Atom
-  pub reads : (head : List ℕ) → Gives predicate (met variables names head []) tokens (gives (met variables' names' head atoms))
+  pub reads : (head : List ℕ)
+      → Gives predicate (met variables names head []) tokens (gives (met variables' names' head atoms))
   pub keeps : Keeps body atoms (length variables') (length variables)
 
 -- each variable is in the head or in an atom, and there is an atom

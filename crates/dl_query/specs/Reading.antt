@@ -37,8 +37,8 @@ TextHasOutcome bytes names o = HasOutcome (length bytes) query_word (nothing_met
 abbrev pub behind_token : List ℕ → ℕ → List ℕ
 behind_token bytes at = (front_of (drop at bytes)).rest
 
--- the other text has the same bytes up to the end of that token, or up to the byte that shows that none begins. Where the
--- end of the text shows it, the other text ends there too
+-- the other text has the same bytes up to the end of that token, or up to the byte that shows that none begins. Where
+-- the end of the text shows it, the other text ends there too
 pub record IsSameUpTo (bytes : List ℕ) (at : ℕ) (other : List ℕ) : Type 0 where
   pub seen : List ℕ
   pub others : List ℕ

@@ -1,5 +1,5 @@
--- What a reader of a query expects next, and what the next token does there. The grammar is LL(1) (Aho, Lam, Sethi, Ullman:
--- Compilers, 4.4): what is expected and the next token alone say how reading goes on, or that it can't.
+-- What a reader of a query expects next, and what the next token does there. The grammar is LL(1) (Aho, Lam, Sethi,
+-- Ullman: Compilers, 4.4): what is expected and the next token alone say how reading goes on, or that it can't.
 use Rattle.std.specs.Prelude.{ℕ, Bool, not, ◌&&◌, nat_le, List, length, if◌then◌else◌}
 use Rattle.dl_names.specs.NameList.{Text, max_names, has_name}
 use Rattle.dl_terms.specs.declared.query.Term.{Term}
@@ -22,7 +22,8 @@ pub data Expected : Type 0 where
   head_end : Expected
   predicate : Expected
   body_more : Expected
-  -- behind a predicate, by its place and whether it may be a role: the ( , a term, what follows it, a second term, the )
+  -- behind a predicate, by its place and whether it may be a role: the ( , a term, what follows it, a second term, and
+  -- the )
   terms_opening : ℕ → Bool → Expected
   first_term : ℕ → Bool → Expected
   first_more : ℕ → Bool → Term → Expected

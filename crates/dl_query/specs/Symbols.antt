@@ -9,8 +9,8 @@ use Rattle.dl_names.specs.Iris.{is_iri_byte}
 use Rattle.dl_query.specs.declared.token.Mark.{Mark}
 use Rattle.dl_query.specs.declared.token.Mark.TheVariants.{QueryWord, Opening, Closing, Comma, Turnstile, Ending}
 
--- what a token says: q ( ) , :- or the end of the text, a variable by its name without the ?, an IRI without its < and >;
--- or that no token begins there
+-- what a token says: q ( ) , :- or the end of the text, a variable by its name without the ?, an IRI without its < and
+-- >; or that no token begins there
 pub data Symbol : Type 0 where
   mark : Mark → Symbol
   variable : Text → Symbol

@@ -1,6 +1,7 @@
 use thiserror::Error;
 
-/// Why a text gives no query. Offsets `at` are those of the first bytes of tokens, from 0; head places are counted from 1.
+/// Why a text gives no query. Offsets `at` are those of the first bytes of tokens, from 0; head places are counted
+/// from 1.
 #[derive(Clone, Copy, Debug, PartialEq, Eq, Error)]
 pub enum QueryFault {
     /// No token begins there, or the token fits no rule of the grammar there.
@@ -8,7 +9,8 @@ pub enum QueryFault {
     Syntax {
         at: usize,
     },
-    /// A name of one of the reserved namespaces where none may stand, or the comma behind the first term of `owl:Nothing`.
+    /// A name of one of the reserved namespaces where none may stand, or the comma behind the first term of
+    /// `owl:Nothing`.
     #[error("byte {at}: reserved name")]
     Reserved {
         at: usize,

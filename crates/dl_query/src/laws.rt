@@ -22,7 +22,8 @@ pub fn results_are_determined()
         ⊎ ((f : QueryFault) × (after : List Text) × HasFault bytes names f after) }
 {}
 
-/// A text has a value exactly where it is of the grammar, its names get places, and neither `Unsafe` nor `TooLarge` comes.
+/// A text has a value exactly where it is of the grammar, its names get places, and neither `Unsafe` nor `TooLarge`
+/// comes.
 pub fn values_are_of_the_grammar()
     ensures value { (bytes : List ℕ) (names : List Text) (m : Met) → IsText bytes names m →
         ((at : ℕ) (after : List Text) → HasFault bytes names (TooManyNames at) after → ⊥) →

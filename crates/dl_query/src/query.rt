@@ -16,10 +16,10 @@ use dl_names::NameSet;
 use dl_terms::{List, NoMemory, Query};
 use std::alloc::Global;
 
-/// Reads a query text. Its names get their places in `names`, and its variables their numbers in the order in which they first
-/// occur, the head first. The fault is the first one of the text: at the first token at which reading can't go on, then
-/// `Unsafe`, then `TooLarge`. `NoMemory` may come at any time. After a fault `names` has the names that were read before it.
-/// The grammar is this project's own.
+/// Reads a query text. Its names get their places in `names`, and its variables their numbers in the order in which
+/// they first occur, the head first. The fault is the first one of the text: at the first token at which reading can't
+/// go on, then `Unsafe`, then `TooLarge`. `NoMemory` may come at any time. After a fault `names` has the names that were
+/// read before it. The grammar is this project's own.
 pub fn read_query(alloc: Global, bytes: &[u8], names: &mut NameSet) -> Result<Query, QueryFault>
     ensures ok { IfOk result (λ query. IsValue bytes.now names.old query names.new) }
     ensures fault { IfErr result (λ fault. fault ≢ QueryFault.NoMemory →
@@ -35,8 +35,8 @@ pub fn read_query(alloc: Global, bytes: &[u8], names: &mut NameSet) -> Result<Qu
     judged(alloc, &head, body, heads, variables.len())
 }
 
-/// The query with this head and body, if its head is in its body and its parts are not too many. `heads` variables of the
-/// `variables` are in the head.
+/// The query with this head and body, if its head is in its body and its parts are not too many. `heads` variables of
+/// the `variables` are in the head.
 fn judged(
     alloc: Global,
     head: &[usize],

@@ -55,8 +55,8 @@ impl<'a> Tokens<'a> {
         }
     }
 
-    /// Passes over a comma and gives its offset, or over this token, which ends a list, and gives `None`. `Syntax` where
-    /// another one stands next.
+    /// Passes over a comma and gives its offset, or over this token, which ends a list, and gives `None`. `Syntax`
+    /// where another one stands next.
     pub(crate) fn comma_or(&mut self, end: Mark) -> Result<Option<usize>, QueryFault>
         ensures ok { IfOk result (λ comma. MatchOption comma (next_symbol self.old ≡ mark end)
             (λ at. (next_symbol self.old ≡ mark Mark.Comma) × (at ≡ next_at self.old))) }
