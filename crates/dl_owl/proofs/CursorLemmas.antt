@@ -16,6 +16,7 @@ use Rattle.dl_owl.specs.Steps.{move_of}
 use Rattle.dl_owl.specs.Reading.{fails, depth_after, is_too_deep, is_full, outcome_of, outcome}
 use Rattle.dl_owl.specs.Walk as walk
 use Rattle.dl_owl.specs.Walk.{Spot, symbol_at, Here, here, met_of, FromToken, Goes, Faults, Moved, NoneNext, Reads, Passes}
+use Rattle.dl_owl.proofs.AheadLemmas.{moved_ahead}
 use Rattle.dl_owl.proofs.WalkLemmas.{goes_tokens, one_token, goes-fit, faults-behind, faults-refused, faults-deep, no_token_refused}
 
 -- ---- the exit of a `?`
@@ -142,6 +143,7 @@ module _ (e : Expected) (s : Spot) (p : Prefixes) (names : List name_list.Text) 
       → Goes e (here s p names) (k (place_of (names_after names text) text)) (here new p (names_after names text))
   name-goes room new m = record {
     same = m.bytes;
+    ahead = moved_ahead s new m some;
     on = λ all rest from. (
       placed s.bytes s.token ∷ rest,
       (

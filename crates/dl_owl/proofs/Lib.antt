@@ -14,6 +14,7 @@ pub mod TokenLists
 pub mod Whole
 pub mod Stops
 pub mod TextLemmas
+pub mod AheadLemmas
 pub mod WalkLemmas
 pub mod CursorLemmas
 pub mod SpanLemmas

@@ -1,5 +1,6 @@
 -- Steps of a reader over the tokens, one after another.
 use Rattle.std.proofs.Common.{◌≡◌, ◌≢◌, ℕ, suc, zero, Bool, true, false, cond, not, inl, inr, Result, Ok, Err, List, [], ◌∷◌, refl, sym, ap, ◌∙◌, subst}
+use Rattle.std.proofs.Math.Nat.{lt_trans}
 use Rattle.dl_lex.specs.declared.token.TokenKind.{TokenKind}
 use Rattle.dl_lex.specs.declared.token.TokenKind.TheVariants.{Open, Close, Equals, Caret, Iri, Text, Lang, Node, Short, Number, Word, End}
 use Rattle.dl_lex.specs.declared.token.Token.{Token}
@@ -16,7 +17,8 @@ use Rattle.dl_owl.specs.Expected.{Expected, prologue, prefix_name, prefix_equals
 use Rattle.dl_owl.specs.Steps.{move_of}
 use Rattle.dl_owl.specs.Reading.{fails, depth_after, is_too_deep, outcome_of, outcome}
 use Rattle.dl_owl.specs.Walk as walk
-use Rattle.dl_owl.specs.Walk.{Spot, symbol_at, Here, here, met_of, FromToken, Goes, FaultsBy, Faults, Reads}
+use Rattle.dl_owl.specs.Walk.{Spot, symbol_at, Here, here, met_of, FromToken, Goes, FaultsBy, Faults, Reads, Passes}
+use Rattle.dl_owl.proofs.AheadLemmas.{next_left}
 
 -- ---- one after another
 
@@ -28,6 +30,7 @@ goes_tokens bytes all place t tokens next (walk.FromToken.more not them) = symbo
 pub goes-then : (e : Expected) (a : Here) (f : Expected) (b : Here) (g : Expected) (c : Here) → Goes e a f b → Goes f b g c → Goes e a g c
 goes-then e a f b g c first second = record {
   same = second.same ∙ first.same;
+  ahead = lt_trans second.ahead first.ahead;
   on = λ all rest from.
       let middle =
       second.on all rest (subst (λ bytes. FromToken bytes all c.spot.token rest) (sym first.same) from) in
@@ -70,9 +73,22 @@ pub goes_alike : (e f : Expected) (a : Here) (later : Expected) (b : Here)
     → move_of a.prefixes e (symbol_at a.spot) ≡ move_of a.prefixes f (symbol_at a.spot) → Goes f a later b → Goes e a later b
 goes_alike e f a later b is h = record {
   same = h.same;
+  ahead = h.ahead;
   on = λ all rest from.
       let front = h.on all rest from in
       (front.0, (front.1.0, outcome_alike e f a all front.0 front.1.0 is ∙ front.1.1));
+}
+
+-- where what is expected there goes on as something else does
+pub goes_as : (e : Expected) (a : Here) (f g : Expected) (b : Here)
+    → move_of b.prefixes f (symbol_at b.spot) ≡ move_of b.prefixes g (symbol_at b.spot) → Goes e a f b → Goes e a g b
+goes_as e a f g b is h = record {
+  same = h.same;
+  ahead = h.ahead;
+  on = λ all rest from.
+      let front = h.on all rest from in
+      let there = subst (λ bytes. FromToken bytes all b.spot.token rest) (sym h.same) from in
+      (front.0, (front.1.0, front.1.1 ∙ outcome_alike f g b all rest there is));
 }
 
 pub faults_alike : (e f : Expected) (a : Here) (fault : OwlFault)
@@ -88,6 +104,18 @@ faults_alike e f a fault is (inr by) =
       are = by.are;
       comes = outcome_alike e f a false by.tokens by.are is ∙ by.comes;
     })
+
+-- the same of what has no value
+pub passes_behind : (e f : Expected → Expected) (a b c : Here) (r : Result (Unit {0}) OwlFault)
+    → ((k : Expected) → Goes (e k) a (f k) b) → Passes f b c r → Passes e a c r
+passes_behind e f a b c (Ok v) first h = λ k. goes-then (e k) a (f k) b k c (first k) (h k)
+passes_behind e f a b c (Err fault) first h = λ k. goes-faults (e k) a (f k) b fault (first k) (h k)
+
+pub passes_alike : (e f : Expected → Expected) (a b : Here) (r : Result (Unit {0}) OwlFault)
+    → ((k : Expected) → move_of a.prefixes (e k) (symbol_at a.spot) ≡ move_of a.prefixes (f k) (symbol_at a.spot))
+    → Passes f a b r → Passes e a b r
+passes_alike e f a b (Ok v) is h = λ k. goes_alike (e k) (f k) a k b (is k) (h k)
+passes_alike e f a b (Err fault) is h = λ k. faults_alike (e k) (f k) a fault (is k) (h k)
 
 -- ---- a token that fits
 
@@ -105,6 +133,7 @@ module _ (e next : Expected) (s : Spot) (p : Prefixes) (names : List name_list.T
       → Goes e (here s p names) next (here (record { bytes = s.bytes; token = t; depth = depth_after (symbol_at s) s.depth }) p names)
   goes-fit t after = record {
     same = refl;
+    ahead = next_left s.bytes s.token t some after;
     on = λ all rest from.
         (placed s.bytes s.token ∷ rest, (walk.FromToken.more some (goes_tokens s.bytes all s.token.end t rest after from), fits rest));
   }

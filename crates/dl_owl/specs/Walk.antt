@@ -1,5 +1,6 @@
 -- Where a reader of an ontology stands, and how it goes on from there to another place or comes to a fault.
-use Rattle.std.specs.Prelude.{◌≡◌, ◌≢◌, ◌⊎◌, ℕ, Bool, false, Result, Ok, Err, List, [], ◌∷◌}
+use Rattle.std.specs.Prelude.{◌≡◌, ◌≢◌, ◌<◌, ◌-◌, ◌⊎◌, ℕ, suc, Bool, false, Result, Ok, Err, List, [], ◌∷◌, length}
+use Rattle.dl_lex.specs.declared.token.TokenKind.{TokenKind}
 use Rattle.dl_lex.specs.declared.token.TokenKind.TheVariants.{End}
 use Rattle.dl_lex.specs.declared.token.Token.{Token}
 use Rattle.dl_lex.specs.Grammar.{IsNextToken, IsFaultAt}
@@ -26,6 +27,14 @@ pub record Spot : Type 0 where
 abbrev pub symbol_at : Spot → Symbol
 symbol_at s = (placed s.bytes s.token).symbol
 
+-- no more tokens than this are left, the next one among them: none at the end
+abbrev pub left_by : TokenKind → ℕ → ℕ
+left_by End behind = 0
+left_by _ behind = suc behind
+
+abbrev pub left : Spot → ℕ
+left s = left_by s.token.kind (length s.bytes - s.token.end)
+
 -- with what else is met so far
 pub record Here : Type 0 where
   pub spot : Spot
@@ -44,10 +53,11 @@ pub data FromToken (bytes : List ℕ) (all : Bool) (t : Token) : List Placed →
   more : {rest : List Placed} → t.kind ≢ End → AreTokens bytes all t.end rest
       → FromToken bytes all t (placed bytes t ∷ rest)
 
--- where this is expected here, that is expected there: whatever tokens stand there, with those before them they come to
--- the same
+-- where this is expected here, that is expected there, further on: whatever tokens stand there, with those before them
+-- they come to the same
 pub record Goes (e : Expected) (from : Here) (later : Expected) (to : Here) : Type 0 where
   pub same : to.spot.bytes ≡ from.spot.bytes
+  pub ahead : left to.spot < left from.spot
   pub on : (all : Bool) (rest : List Placed) → FromToken from.spot.bytes all to.spot.token rest
       → (tokens : List Placed) × (FromToken from.spot.bytes all from.spot.token tokens
       × (outcome e (met_of from) tokens ≡ outcome later (met_of to) rest))
