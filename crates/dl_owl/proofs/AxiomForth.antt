@@ -14,7 +14,9 @@ use Rattle.dl_owl.specs.Prefixes.{Prefixes}
 use Rattle.dl_owl.specs.NamesNext.{owl_thing, owl_top_object_property, may_be_class, IsIri, IsNameOf}
 use Rattle.dl_owl.specs.Annotations.{ValueThen}
 use Rattle.dl_owl.specs.Expressions.{RoleThen, SupThen, RolesThen, SubsThen}
-use Rattle.dl_owl.specs.Items.{Item, axiom_item, fact_item, role_item, no_effect, property_of, link}
+use Rattle.dl_owl.specs.declared.item.Item.{Item}
+use Rattle.dl_owl.specs.declared.item.Item.TheVariants.{Axiom as axiom_item, Fact as fact_item, Role as role_item, NoEffect as no_effect}
+use Rattle.dl_owl.specs.Items.{property_of, link}
 use Rattle.dl_owl.specs.Axioms as axioms
 use Rattle.dl_owl.specs.Axioms.{is_annotation_axiom, EntityThen, DifferentThen, OperandsThen, AxiomThen}
 use Rattle.dl_owl.specs.Expected.{Expected, close_then, iri_then, subject_then, value_then, role_then, first_role, second_role, sub_then, sup_then, roles_close, subs_close, individual_then, unnamed_then, different_close, class_then, entity_then, Move, refuses}

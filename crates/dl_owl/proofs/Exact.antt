@@ -17,7 +17,8 @@ use Rattle.dl_owl.specs.Expressions.{RoleThen, SubThen, SupThen, SupsThen, Roles
 use Rattle.dl_owl.specs.Axioms.{DifferentThen, AxiomThen, EntityThen}
 use Rattle.dl_owl.specs.Ontologies as ontologies
 use Rattle.dl_owl.specs.Ontologies.{PrefixesThen, AxiomsThen}
-use Rattle.dl_owl.specs.Items.{Item, empty_document}
+use Rattle.dl_owl.specs.declared.item.Item.{Item}
+use Rattle.dl_owl.specs.Items.{empty_document}
 use Rattle.dl_owl.specs.Causes.{too_deep, too_many_names}
 use Rattle.dl_owl.specs.Expected.{Expected, prologue, prefix_name, prefix_equals, prefix_iri, title, annotations_first, items, lone_axiom, finish, done, open_then, close_then, annotations_then, iri_then, subject_then, value_then, value_end, property_then, role_then, first_role, second_role, sub_then, sup_then, thing_then, filler_then, roles_close, subs_close, sups_close, individual_then, unnamed_then, different_close, class_then, declared_class, entity_then, Move, goes, takes_name, declares, refuses}
 use Rattle.dl_owl.specs.Steps.{move_of}

@@ -19,7 +19,8 @@ use Rattle.dl_owl.specs.Annotations as annotations
 use Rattle.dl_owl.specs.Annotations.{ValueThen, AnnotationsThen}
 use Rattle.dl_owl.specs.Expressions as expressions
 use Rattle.dl_owl.specs.Expressions.{RoleThen, SubThen, SupThen, SupsThen, RolesThen, SubsThen}
-use Rattle.dl_owl.specs.Items.{Item, class_item, role_item, no_effect}
+use Rattle.dl_owl.specs.declared.item.Item.{Item}
+use Rattle.dl_owl.specs.declared.item.Item.TheVariants.{Class as class_item, Role as role_item, NoEffect as no_effect}
 use Rattle.dl_owl.specs.Axioms as axioms
 use Rattle.dl_owl.specs.Axioms.{is_other_entity, is_annotation_axiom, EntityThen, DifferentThen, OperandsThen, AxiomThen}
 use Rattle.dl_owl.specs.declared.fault.Construct.TheVariants.{Thing}

@@ -14,7 +14,8 @@ use Rattle.dl_owl.specs.Annotations as annotations
 use Rattle.dl_owl.specs.Annotations.{ValueThen, AnnotationsThen}
 use Rattle.dl_owl.specs.Expressions as expressions
 use Rattle.dl_owl.specs.Expressions.{RoleThen, SubThen, SupThen, SupsThen, RolesThen, SubsThen}
-use Rattle.dl_owl.specs.Items.{Item, no_effect}
+use Rattle.dl_owl.specs.declared.item.Item.{Item}
+use Rattle.dl_owl.specs.declared.item.Item.TheVariants.{NoEffect as no_effect}
 use Rattle.dl_owl.specs.Axioms as axioms
 use Rattle.dl_owl.specs.Axioms.{is_other_entity, EntityThen, DifferentThen}
 use Rattle.dl_owl.specs.Causes.{syntax, reserved}

@@ -10,7 +10,8 @@ use Rattle.dl_owl.specs.Prefixes.{Prefixes, prefix_of, local_of, declared_iri}
 use Rattle.dl_owl.specs.NamesNext.{owl_thing, owl_top_object_property, is_free, may_be_class, IsIri, IsNameOf}
 use Rattle.dl_owl.specs.Annotations.{ValueThen, AnnotationsThen}
 use Rattle.dl_owl.specs.Expressions.{RoleThen, SubThen, SupThen, SupsThen, RolesThen, SubsThen}
-use Rattle.dl_owl.specs.Items.{Item, empty_document, with_item}
+use Rattle.dl_owl.specs.declared.item.Item.{Item}
+use Rattle.dl_owl.specs.Items.{empty_document, with_item}
 use Rattle.dl_owl.specs.Axioms.{EntityThen, DifferentThen, AxiomThen}
 use Rattle.dl_owl.specs.Ontologies.{PrefixesThen, AxiomsThen}
 use Rattle.dl_owl.specs.Expected.{Expected, prologue, prefix_name, prefix_equals, prefix_iri, title, annotations_first, items, lone_axiom, finish, done, open_then, close_then, annotations_then, iri_then, subject_then, value_then, value_end, property_then, role_then, first_role, second_role, sub_then, sup_then, thing_then, filler_then, roles_close, subs_close, sups_close, individual_then, unnamed_then, different_close, class_then, declared_class, entity_then, Move, goes, takes_name, declares, refuses}

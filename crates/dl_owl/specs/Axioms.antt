@@ -13,7 +13,9 @@ use Rattle.dl_owl.specs.Prefixes.{Prefixes}
 use Rattle.dl_owl.specs.NamesNext.{owl_thing, owl_top_object_property, is_free, may_be_class, IsIri, IsNameOf}
 use Rattle.dl_owl.specs.Annotations.{ValueThen, AnnotationsThen}
 use Rattle.dl_owl.specs.Expressions.{RoleThen, SubThen, SupThen, RolesThen, SubsThen}
-use Rattle.dl_owl.specs.Items.{Item, axiom_item, fact_item, class_item, role_item, no_effect, property_of, link}
+use Rattle.dl_owl.specs.declared.item.Item.{Item}
+use Rattle.dl_owl.specs.declared.item.Item.TheVariants.{Axiom as axiom_item, Fact as fact_item, Class as class_item, Role as role_item, NoEffect as no_effect}
+use Rattle.dl_owl.specs.Items.{property_of, link}
 
 -- the entities that may be declared without effect
 abbrev pub is_other_entity : Keyword → Bool

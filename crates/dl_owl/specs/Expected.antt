@@ -6,7 +6,7 @@ use Rattle.dl_terms.specs.declared.role.Role.{Role}
 use Rattle.dl_terms.specs.declared.role.Basic.{Basic}
 use Rattle.dl_terms.specs.declared.axiom.Part.{Part}
 use Rattle.dl_owl.specs.declared.document.Document.{Document}
-use Rattle.dl_owl.specs.Items.{Item}
+use Rattle.dl_owl.specs.declared.item.Item.{Item}
 use Rattle.dl_owl.specs.Causes.{Cause}
 
 pub data Expected : Type 0 where

@@ -7,14 +7,8 @@ use Rattle.dl_terms.specs.declared.axiom.Fact.TheVariants.{Link}
 use Rattle.dl_terms.specs.declared.role.Base.{Base}
 use Rattle.dl_terms.specs.declared.role.Base.TheVariants.{Named, Filler}
 use Rattle.dl_owl.specs.declared.document.Document.{Document}
-
--- an axiom, a fact, a declared class, a declared role, or nothing
-pub data Item : Type 0 where
-  axiom_item : Axiom → Item
-  fact_item : Fact → Item
-  class_item : ℕ → Item
-  role_item : ℕ → Item
-  no_effect : Item
+use Rattle.dl_owl.specs.declared.item.Item.{Item}
+use Rattle.dl_owl.specs.declared.item.Item.TheVariants.{Axiom as axiom_item, Fact as fact_item, Class as class_item, Role as role_item, NoEffect as no_effect}
 
 abbrev pub empty_document : Document
 empty_document = record { axioms = []; facts = []; classes = []; roles = [] }

@@ -7,7 +7,8 @@ use Rattle.dl_owl.specs.Symbols.{Symbol, opening, closing, equals, full_iri, sho
 use Rattle.dl_owl.specs.Prefixes.{Prefixes, predefined, prefix_of, local_of, declared_iri}
 use Rattle.dl_owl.specs.NamesNext.{IsIri}
 use Rattle.dl_owl.specs.Annotations.{AnnotationsThen}
-use Rattle.dl_owl.specs.Items.{Item, empty_document, with_item}
+use Rattle.dl_owl.specs.declared.item.Item.{Item}
+use Rattle.dl_owl.specs.Items.{empty_document, with_item}
 use Rattle.dl_owl.specs.Axioms.{AxiomThen}
 
 -- the prefix declarations stand next, and then the rest; what is declared after them. A prefix may be

@@ -7,6 +7,7 @@ mod cursor;
 mod document;
 mod fault;
 mod iri;
+mod item;
 mod laws;
 mod left;
 mod name;
