@@ -22,3 +22,4 @@ pub mod PrefixLemmas
 pub mod TakenLemmas
 pub mod ReaderLemmas
 pub mod AnnotationLemmas
+pub mod EntityLemmas

@@ -13,3 +13,4 @@ pub mod Steps
 pub mod Reading
 pub mod AxiomText
 pub mod Walk
+pub mod Entities

@@ -5,6 +5,7 @@ mod annotation;
 mod class;
 mod cursor;
 mod document;
+mod entity;
 mod fault;
 mod iri;
 mod item;
