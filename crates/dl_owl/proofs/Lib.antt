@@ -23,3 +23,5 @@ pub mod TakenLemmas
 pub mod ReaderLemmas
 pub mod AnnotationLemmas
 pub mod EntityLemmas
+pub mod DocumentLemmas
+pub mod PrologueLemmas

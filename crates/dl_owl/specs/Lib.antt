@@ -14,3 +14,4 @@ pub mod Reading
 pub mod AxiomText
 pub mod Walk
 pub mod Entities
+pub mod Documents

@@ -13,6 +13,7 @@ mod laws;
 mod left;
 mod name;
 mod prefixes;
+mod prologue;
 mod refused;
 mod right;
 mod role;
