@@ -21,6 +21,8 @@ pub mod SpanLemmas
 pub mod PrefixLemmas
 pub mod TakenLemmas
 pub mod ReaderLemmas
+pub mod SeriesLemmas
+pub mod RightLemmas
 pub mod AnnotationLemmas
 pub mod EntityLemmas
 pub mod DocumentLemmas

@@ -15,3 +15,4 @@ pub mod AxiomText
 pub mod Walk
 pub mod Entities
 pub mod Documents
+pub mod Series

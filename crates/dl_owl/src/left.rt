@@ -15,7 +15,7 @@ use dl_names::NameSet;
 use dl_terms::Basic;
 
 /// Whether `ObjectSomeValuesFrom` stands next.
-fn is_some(at: &Cursor) -> bool
+pub(crate) fn is_some(at: &Cursor) -> bool
     ensures { IsTrue result ↔ (at.now.token.kind ≡ TokenKind.Word Keyword.ObjectSomeValuesFrom) }
 {
     match at.kind() {

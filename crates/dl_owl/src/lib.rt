@@ -11,6 +11,7 @@ mod iri;
 mod item;
 mod laws;
 mod left;
+mod list;
 mod name;
 mod prefixes;
 mod prologue;

@@ -1,16 +1,22 @@
 // Class expressions of a right side that stand next.
+ghost use Rattle.std.specs.Prelude.{◌≡◌, ◌↔◌, IsTrue, []};
 ghost use Rattle.dl_terms.specs.declared.axiom.Part.TheVariants.{Not};
-ghost use Rattle.dl_owl.specs.Expected.{open_then, close_then, role_then, filler_then, sub_then};
+ghost use Rattle.dl_owl.specs.Expected.{open_then, close_then, role_then, filler_then, sub_then, sup_then, sups_close};
+ghost use Rattle.dl_owl.specs.Series.{ReadsOne, Appends};
 ghost use Rattle.dl_owl.specs.Walk.{here, Reads};
 
 use crate::class::filler;
 use crate::cursor::{Cursor, close, open};
 use crate::fault::OwlFault;
-use crate::left::sub;
+use crate::left::{is_some, sub};
+use crate::name::class_or_thing;
 use crate::prefixes::Prefixes;
+use crate::refused::refused_sup;
 use crate::role::role;
+use dl_lex::{Keyword, TokenKind};
 use dl_names::NameSet;
-use dl_terms::Part;
+use dl_terms::{List, Part};
+use std::alloc::Global;
 
 /// What has a neighbour by a role, in a class if one is named, behind its keyword.
 pub(crate) fn some_part(
@@ -43,4 +49,129 @@ pub(crate) fn complement(
     let inner = sub(at, prefixes, names, text)?;
     close(at)?;
     Ok(Part::Not(inner))
+}
+
+/// Whether `ObjectComplementOf` stands next.
+fn is_complement(at: &Cursor) -> bool
+    ensures { IsTrue result ↔ (at.now.token.kind ≡ TokenKind.Word Keyword.ObjectComplementOf) }
+{
+    match at.kind() {
+        TokenKind::Word(Keyword::ObjectComplementOf) => true,
+        _ => false,
+    }
+}
+
+/// Whether `ObjectIntersectionOf` stands next.
+fn is_intersection(at: &Cursor) -> bool
+    ensures { IsTrue result ↔ (at.now.token.kind ≡ TokenKind.Word Keyword.ObjectIntersectionOf) }
+{
+    match at.kind() {
+        TokenKind::Word(Keyword::ObjectIntersectionOf) => true,
+        _ => false,
+    }
+}
+
+/// The class expression of a right side that stands next and is no intersection.
+fn part(
+    at: &mut Cursor,
+    prefixes: &Prefixes,
+    names: &mut NameSet,
+    text: &mut String,
+) -> Result<Part, OwlFault>
+    ensures { (at.old.token.kind ≡ TokenKind.Word Keyword.ObjectIntersectionOf → ⊥)
+        → ReadsOne sup_then (here at.old prefixes.now names.old)
+        (here at.new prefixes.now names.new) result }
+{
+    let start = at.start();
+    if is_some(at) {
+        at.advance()?;
+        return some_part(at, prefixes, names, text);
+    }
+    if is_complement(at) {
+        at.advance()?;
+        return complement(at, prefixes, names, text);
+    }
+    if let Some(word) = at.keyword() {
+        return Err(refused_sup(word, start));
+    }
+    match class_or_thing(at, prefixes, names, text, OwlFault::Syntax { at: start })? {
+        None => Ok(Part::Thing),
+        Some(class) => Ok(Part::Class(class)),
+    }
+}
+
+/// Puts the class expression of a right side that stands next and is no intersection behind the parts before.
+fn add_part(
+    at: &mut Cursor,
+    prefixes: &Prefixes,
+    names: &mut NameSet,
+    text: &mut String,
+    parts: &mut List<Part>,
+) -> Result<(), OwlFault>
+    ensures { (at.old.token.kind ≡ TokenKind.Word Keyword.ObjectIntersectionOf → ⊥)
+        → Appends sup_then (here at.old prefixes.now names.old)
+        (here at.new prefixes.now names.new) parts.old parts.new result }
+{
+    let next = part(at, prefixes, names, text)?;
+    let Ok(()) = parts.push(next) else {
+        return Err(OwlFault::NoMemory);
+    };
+    Ok(())
+}
+
+/// Puts the parts of the class expression of a right side that stands next behind those before. It calls itself as deep
+/// as parentheses may be open.
+#[cycle(parts)]
+fn add_parts(
+    at: &mut Cursor,
+    prefixes: &Prefixes,
+    names: &mut NameSet,
+    text: &mut String,
+    parts: &mut List<Part>,
+) -> Result<(), OwlFault>
+    ensures { Appends sup_then (here at.old prefixes.now names.old)
+        (here at.new prefixes.now names.new) parts.old parts.new result }
+{
+    if !is_intersection(at) {
+        return add_part(at, prefixes, names, text, parts);
+    }
+    at.advance()?;
+    intersection(at, prefixes, names, text, parts)
+}
+
+/// Puts the parts of an intersection, behind its keyword, behind those before.
+#[cycle(parts)]
+fn intersection(
+    at: &mut Cursor,
+    prefixes: &Prefixes,
+    names: &mut NameSet,
+    text: &mut String,
+    parts: &mut List<Part>,
+) -> Result<(), OwlFault>
+    ensures { Appends (λ k. open_then (sups_close 2 [] k)) (here at.old prefixes.now names.old)
+        (here at.new prefixes.now names.new) parts.old parts.new result }
+{
+    open(at)?;
+    add_parts(at, prefixes, names, text, parts)?;
+    add_parts(at, prefixes, names, text, parts)?;
+    while !at.is_close() {
+        add_parts(at, prefixes, names, text, parts)?;
+    }
+    close(at)
+}
+
+/// The class expression of a right side that stands next, as its parts from left to right.
+pub(crate) fn sup(
+    alloc: Global,
+    at: &mut Cursor,
+    prefixes: &Prefixes,
+    names: &mut NameSet,
+    text: &mut String,
+) -> Result<List<Part>, OwlFault>
+    ensures { Reads sup_then (here at.old prefixes.now names.old)
+        (here at.new prefixes.now names.new) result }
+{
+    let mut parts = List::new(alloc);
+    add_parts(at, prefixes, names, text, &mut parts)?;
+    Ok(parts)
 }

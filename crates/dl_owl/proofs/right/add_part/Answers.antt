@@ -1,0 +1,16 @@
+use Rattle.std.proofs.Common.{[], ◌∷◌, inl, refl}
+use Rattle.dl_owl.specs.Expected.{sup_then}
+use Rattle.dl_owl.specs.Walk.{here}
+use Rattle.dl_owl.specs.Series.{Appends}
+use Rattle.dl_owl.proofs.SeriesLemmas.{exit_by}
+use Rattle.dl_owl.proofs.right.add_part.Goals as goal
+
+pub returns-in_err-next : goal.returns-in_err-next
+returns-in_err-next c =
+    λ not.
+    exit_by (Appends sup_then (here c.args.at.now c.args.prefixes.now c.args.names.now)
+    (here c.part.new.at c.args.prefixes.now c.part.new.names) c.args.parts.now c.args.parts.now)
+    c.from_residual.result c.in_err-next.field-0.0 c.from_residual.ensures.1 (c.in_err-next.ensures not)
+
+pub returns : goal.returns
+returns c = λ not. (c.in_ok-next.next ∷ [], c.in-Ok.ensures.ok, c.in_ok-next.ensures not)
