@@ -23,6 +23,7 @@ pub mod TakenLemmas
 pub mod ReaderLemmas
 pub mod SeriesLemmas
 pub mod RightLemmas
+pub mod PairLemmas
 pub mod AnnotationLemmas
 pub mod EntityLemmas
 pub mod DocumentLemmas

@@ -196,3 +196,10 @@ sups_series = record { more = λ p n before k s. refl; other = sups_other; ends 
 -- behind the keyword of an intersection
 abbrev pub parts_behind : (List Part → Expected) → Expected
 parts_behind k = open_then (sups_close 2 [] k)
+
+-- what is read where something else goes on alike
+pub reads_alike : {V : Type 0} (e f : (V → Expected) → Expected) (a b : Here) (r : Result V OwlFault)
+    → ((k : V → Expected) → move_of a.prefixes (e k) (symbol_at a.spot) ≡ move_of a.prefixes (f k) (symbol_at a.spot))
+    → Reads f a b r → Reads e a b r
+reads_alike e f a b (Ok v) is h = λ k. goes_alike (e k) (f k) a (k v) b (is k) (h k)
+reads_alike e f a b (Err fault) is h = λ k. faults_alike (e k) (f k) a fault (is k) (h k)

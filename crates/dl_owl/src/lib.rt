@@ -13,6 +13,7 @@ mod laws;
 mod left;
 mod list;
 mod name;
+mod pair;
 mod prefixes;
 mod prologue;
 mod refused;

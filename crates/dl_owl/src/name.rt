@@ -5,7 +5,7 @@ ghost use Rattle.std.specs.Str.{bytes_eq};
 ghost use Rattle.dl_owl.specs.Prefixes.{Prefixes};
 ghost use Rattle.dl_owl.specs.NamesNext.{IsIri, is_free, may_be_class, owl_thing};
 ghost use Rattle.dl_owl.specs.Causes.{Cause, fault_of};
-ghost use Rattle.dl_owl.specs.Expected.{goes, takes_name, refuses, iri_then, property_then, individual_then};
+ghost use Rattle.dl_owl.specs.Expected.{goes, takes_name, refuses, iri_then, property_then, individual_then, unnamed_then};
 ghost use Rattle.dl_owl.specs.Steps.{name_next, named_next, class_or_thing, refused_individual};
 ghost use Rattle.dl_owl.specs.Walk.{here, symbol_at, Follows, Expects, Passes, Reads};
 
@@ -35,14 +35,14 @@ fn take_name(at: &mut Cursor, names: &mut NameSet, text: &str) -> Result<u32, Ow
 }
 
 /// Whether an IRI may name an object property or an individual.
-fn is_free(text: &str) -> bool
+pub(crate) fn is_free(text: &str) -> bool
     ensures { result ≡ is_free text.now }
 {
     !is_reserved(text.as_bytes())
 }
 
 /// Takes the next token as the name of an object property or of an individual, where it is an IRI of this text.
-fn take_free(at: &mut Cursor, names: &mut NameSet, text: &str) -> Result<u32, OwlFault>
+pub(crate) fn take_free(at: &mut Cursor, names: &mut NameSet, text: &str) -> Result<u32, OwlFault>
     ensures { (p : Prefixes) → IsIri p (symbol_at at.old) text.now
         → Follows (λ k. name_next is_free text.now k) (here at.old p names.old) (here at.new p names.new) result }
 {
@@ -141,7 +141,7 @@ pub(crate) fn property(
 }
 
 /// The fault of a token that is no IRI, where an individual is expected.
-fn no_individual(at: &Cursor) -> OwlFault
+pub(crate) fn no_individual(at: &Cursor) -> OwlFault
     ensures { result ≡ fault_of (refused_individual (symbol_at at.now)) at.now.token.start }
 {
     let start = at.start();
@@ -166,6 +166,26 @@ pub(crate) fn individual(
 {
     let other = no_individual(at);
     named(at, prefixes, names, text, other)
+}
+
+/// Passes over an individual that is not named by it.
+pub(crate) fn unnamed(
+    at: &mut Cursor,
+    prefixes: &Prefixes,
+    text: &mut String,
+) -> Result<(), OwlFault>
+    ensures { (names : List Text) → Passes unnamed_then (here at.old prefixes.now names)
+        (here at.new prefixes.now names) result }
+{
+    let other = no_individual(at);
+    let start = at.start();
+    expect_iri(at, prefixes, text, other)?;
+    let iri = text.as_str();
+    if !is_free(iri) {
+        return Err(OwlFault::Reserved { at: start });
+    }
+    at.advance()?;
+    Ok(())
 }
 
 /// The class that stands next, none where it is `owl:Thing`; where the token is no IRI, it is this fault.

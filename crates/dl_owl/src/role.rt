@@ -13,7 +13,7 @@ use dl_names::NameSet;
 use dl_terms::{Base, Role};
 
 /// Whether `ObjectInverseOf` stands next.
-fn is_inverse(at: &Cursor) -> bool
+pub(crate) fn is_inverse(at: &Cursor) -> bool
     ensures { IsTrue result ↔ (at.now.token.kind ≡ TokenKind.Word Keyword.ObjectInverseOf) }
 {
     match at.kind() {
