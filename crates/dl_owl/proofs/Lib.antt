@@ -24,6 +24,7 @@ pub mod ReaderLemmas
 pub mod SeriesLemmas
 pub mod RightLemmas
 pub mod PairLemmas
+pub mod DifferentLemmas
 pub mod AnnotationLemmas
 pub mod EntityLemmas
 pub mod DocumentLemmas

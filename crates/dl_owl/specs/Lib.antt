@@ -16,3 +16,4 @@ pub mod Walk
 pub mod Entities
 pub mod Documents
 pub mod Series
+pub mod Different

@@ -4,6 +4,7 @@
 mod annotation;
 mod class;
 mod cursor;
+mod different;
 mod document;
 mod entity;
 mod fault;

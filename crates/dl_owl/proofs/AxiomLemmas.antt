@@ -1,0 +1,75 @@
+-- What a reader of an axiom looks at: its keyword.
+use Rattle.std.proofs.Common.{◌≡◌, ℕ, Bool, true, false, true≢false, Option, Some, None, Result, Ok, Err, List, refl, sym, ap, ◌∙◌}
+use Rattle.dl_lex.specs.declared.keyword.Keyword.{Keyword}
+use Rattle.dl_lex.specs.declared.keyword.Keyword.TheVariants.{SubClassOf, EquivalentClasses, DisjointClasses, SubObjectPropertyOf, EquivalentObjectProperties, DisjointObjectProperties, InverseObjectProperties, ObjectPropertyDomain, ObjectPropertyRange, SymmetricObjectProperty, AsymmetricObjectProperty, IrreflexiveObjectProperty, ClassAssertion, ObjectPropertyAssertion, DifferentIndividuals, Declaration, AnnotationAssertion, SubAnnotationPropertyOf, AnnotationPropertyDomain, AnnotationPropertyRange}
+use Rattle.dl_lex.specs.declared.token.TokenKind.{TokenKind}
+use Rattle.dl_lex.specs.declared.token.TokenKind.TheVariants.{Word}
+use Rattle.dl_owl.specs.declared.fault.OwlFault.{OwlFault}
+use Rattle.dl_owl.specs.declared.item.Item.{Item}
+use Rattle.dl_owl.specs.declared.item.Item.TheVariants.{NoEffect as no_effect}
+use Rattle.dl_owl.specs.Symbols.{keyword, symbol_of}
+use Rattle.dl_owl.specs.Causes.{syntax}
+use Rattle.dl_owl.specs.Refused.{refused_axiom}
+use Rattle.dl_owl.specs.Expected.{Expected, close_then, iri_then, Move, refuses}
+use Rattle.dl_owl.specs.Steps.{begins, axiom_next, move_of}
+use Rattle.dl_owl.specs.Operands.{is_axiom, operands_then}
+use Rattle.dl_owl.specs.Walk.{symbol_at, Here, Goes, Reads, Follows}
+use Rattle.dl_owl.proofs.WalkLemmas.{goes-then, goes-faults}
+
+-- what is read behind what was passed over
+pub follows_behind : {V : Type 0} (m : (V → Expected) → Move) (f : (V → Expected) → Expected) (a b c : Here) (r : Result V OwlFault)
+    → ((e : Expected) (k : V → Expected) → move_of a.prefixes e (symbol_at a.spot) ≡ m k → Goes e a (f k) b) → Reads f b c r
+    → Follows m a c r
+follows_behind m f a b c (Ok v) first h = λ e k is. goes-then e a (f k) b (k v) c (first e k is) (h k)
+follows_behind m f a b c (Err fault) first h = λ e k is. goes-faults e a (f k) b fault (first e k is) (h k)
+
+pub axiom_no_word : (kind : TokenKind) (bytes : List ℕ) (k : Item → Expected) → ((w : Keyword) → kind ≡ Word w → ⊥)
+    → axiom_next k (symbol_of kind bytes) ≡ refuses syntax
+axiom_no_word (Word w) bytes k not = absurd (not w refl)
+axiom_no_word kind bytes k not = refl
+
+pub axiom_refused : (w : Keyword) (k : Item → Expected) → is_axiom w ≡ false → axiom_next k (keyword w) ≡ refuses (refused_axiom w)
+axiom_refused SubClassOf k is = absurd (true≢false is)
+axiom_refused EquivalentClasses k is = absurd (true≢false is)
+axiom_refused DisjointClasses k is = absurd (true≢false is)
+axiom_refused SubObjectPropertyOf k is = absurd (true≢false is)
+axiom_refused EquivalentObjectProperties k is = absurd (true≢false is)
+axiom_refused DisjointObjectProperties k is = absurd (true≢false is)
+axiom_refused InverseObjectProperties k is = absurd (true≢false is)
+axiom_refused ObjectPropertyDomain k is = absurd (true≢false is)
+axiom_refused ObjectPropertyRange k is = absurd (true≢false is)
+axiom_refused SymmetricObjectProperty k is = absurd (true≢false is)
+axiom_refused AsymmetricObjectProperty k is = absurd (true≢false is)
+axiom_refused IrreflexiveObjectProperty k is = absurd (true≢false is)
+axiom_refused ClassAssertion k is = absurd (true≢false is)
+axiom_refused ObjectPropertyAssertion k is = absurd (true≢false is)
+axiom_refused DifferentIndividuals k is = absurd (true≢false is)
+axiom_refused Declaration k is = absurd (true≢false is)
+axiom_refused AnnotationAssertion k is = absurd (true≢false is)
+axiom_refused SubAnnotationPropertyOf k is = absurd (true≢false is)
+axiom_refused AnnotationPropertyDomain k is = absurd (true≢false is)
+axiom_refused AnnotationPropertyRange k is = absurd (true≢false is)
+axiom_refused w k is = refl
+
+pub axiom_begins : (w : Keyword) (k : Item → Expected) → is_axiom w ≡ true → axiom_next k (keyword w) ≡ begins (operands_then w k)
+axiom_begins SubClassOf k is = refl
+axiom_begins EquivalentClasses k is = refl
+axiom_begins DisjointClasses k is = refl
+axiom_begins SubObjectPropertyOf k is = refl
+axiom_begins EquivalentObjectProperties k is = refl
+axiom_begins DisjointObjectProperties k is = refl
+axiom_begins InverseObjectProperties k is = refl
+axiom_begins ObjectPropertyDomain k is = refl
+axiom_begins ObjectPropertyRange k is = refl
+axiom_begins SymmetricObjectProperty k is = refl
+axiom_begins AsymmetricObjectProperty k is = refl
+axiom_begins IrreflexiveObjectProperty k is = refl
+axiom_begins ClassAssertion k is = refl
+axiom_begins ObjectPropertyAssertion k is = refl
+axiom_begins DifferentIndividuals k is = refl
+axiom_begins Declaration k is = refl
+axiom_begins AnnotationAssertion k is = refl
+axiom_begins SubAnnotationPropertyOf k is = refl
+axiom_begins AnnotationPropertyDomain k is = refl
+axiom_begins AnnotationPropertyRange k is = refl
+axiom_begins w k is = absurd (true≢false (sym is))

@@ -1,0 +1,56 @@
+use Rattle.dl_owl.specs.declared.item.Item.TheVariants as item
+use Rattle.dl_owl.specs.Expected.{close_then, iri_then}
+use Rattle.dl_owl.specs.Walk.{here}
+use Rattle.dl_owl.proofs.WalkLemmas.{goes-then, goes-faults}
+use Rattle.dl_owl.proofs.CursorLemmas.{exit_reads}
+use Rattle.dl_owl.proofs.assertion.annotation_axiom.Goals as goal
+
+pub returns-in_err-iri : goal.returns-in_err-iri
+returns-in_err-iri c =
+    λ names.
+    exit_reads (λ k. iri_then (iri_then (close_then (k item.NoEffect)))) (here c.args.at.now c.args.prefixes.now
+    names) (here c.iri.new.at c.args.prefixes.now names)
+    c.from_residual.result c.in_err-iri.field-0.0 c.from_residual.ensures.1
+    (λ k.
+    (c.in_err-iri.ensures names (iri_then (close_then (k item.NoEffect)))))
+
+pub returns-in_err-iri-2 : goal.returns-in_err-iri-2
+returns-in_err-iri-2 c =
+    λ names.
+    exit_reads (λ k. iri_then (iri_then (close_then (k item.NoEffect)))) (here c.args.at.now c.args.prefixes.now
+    names) (here c.iri-2.new.at c.args.prefixes.now names)
+    c.from_residual-in_err-iri-2.result c.in_err-iri-2.field-0.0 c.from_residual-in_err-iri-2.ensures.1
+    (λ k.
+    goes-faults (iri_then (iri_then (close_then (k item.NoEffect)))) (here c.args.at.now c.args.prefixes.now names)
+    (iri_then (close_then (k item.NoEffect))) (here c.iri.new.at c.args.prefixes.now names) c.in_err-iri-2.field-0.0
+    (c.in_ok-iri.ensures names (iri_then (close_then (k item.NoEffect))))
+    (c.in_err-iri-2.ensures names (close_then (k item.NoEffect))))
+
+pub returns-in_err-close : goal.returns-in_err-close
+returns-in_err-close c =
+    λ names.
+    exit_reads (λ k. iri_then (iri_then (close_then (k item.NoEffect)))) (here c.args.at.now c.args.prefixes.now
+    names) (here c.close.new.at c.args.prefixes.now names)
+    c.from_residual-in_err-close.result c.in_err-close.field-0.0 c.from_residual-in_err-close.ensures.1
+    (λ k.
+    goes-faults (iri_then (iri_then (close_then (k item.NoEffect)))) (here c.args.at.now c.args.prefixes.now names)
+    (close_then (k item.NoEffect)) (here c.iri-2.new.at c.args.prefixes.now names) c.in_err-close.field-0.0
+    (goes-then (iri_then (iri_then (close_then (k item.NoEffect)))) (here c.args.at.now c.args.prefixes.now names)
+    (iri_then (close_then (k item.NoEffect))) (here c.iri.new.at c.args.prefixes.now names) (close_then (k
+    item.NoEffect)) (here c.iri-2.new.at c.args.prefixes.now names)
+    (c.in_ok-iri.ensures names (iri_then (close_then (k item.NoEffect))))
+    (c.in_ok-iri-2.ensures names (close_then (k item.NoEffect))))
+    (c.in_err-close.ensures c.args.prefixes.now names (k item.NoEffect)))
+
+pub returns : goal.returns
+returns c =
+    λ names k.
+    goes-then (iri_then (iri_then (close_then (k item.NoEffect)))) (here c.args.at.now c.args.prefixes.now names)
+    (close_then (k item.NoEffect)) (here c.iri-2.new.at c.args.prefixes.now names) (k item.NoEffect) (here
+    c.close.new.at c.args.prefixes.now names)
+    (goes-then (iri_then (iri_then (close_then (k item.NoEffect)))) (here c.args.at.now c.args.prefixes.now names)
+    (iri_then (close_then (k item.NoEffect))) (here c.iri.new.at c.args.prefixes.now names) (close_then (k
+    item.NoEffect)) (here c.iri-2.new.at c.args.prefixes.now names)
+    (c.in_ok-iri.ensures names (iri_then (close_then (k item.NoEffect))))
+    (c.in_ok-iri-2.ensures names (close_then (k item.NoEffect))))
+    (c.in_ok-close.ensures c.args.prefixes.now names (k item.NoEffect))
