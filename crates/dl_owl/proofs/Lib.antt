@@ -25,6 +25,7 @@ pub mod SeriesLemmas
 pub mod RightLemmas
 pub mod PairLemmas
 pub mod DifferentLemmas
+pub mod AxiomLemmas
 pub mod AnnotationLemmas
 pub mod EntityLemmas
 pub mod DocumentLemmas

@@ -17,3 +17,4 @@ pub mod Entities
 pub mod Documents
 pub mod Series
 pub mod Different
+pub mod Operands

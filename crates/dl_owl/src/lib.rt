@@ -2,7 +2,10 @@
 #![tactic(auto)]
 
 mod annotation;
+mod assertion;
+mod axiom;
 mod class;
+mod class_axiom;
 mod cursor;
 mod different;
 mod document;
@@ -20,6 +23,7 @@ mod prologue;
 mod refused;
 mod right;
 mod role;
+mod role_axiom;
 mod text;
 
 pub use document::Document;

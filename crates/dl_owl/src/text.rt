@@ -48,7 +48,7 @@ fn push_open(out: &mut String, keyword: Keyword) -> Result<(), AllocError>
 }
 
 /// The object property of a role.
-fn property_of(role: Role) -> u32
+pub(crate) fn property_of(role: Role) -> u32
     ensures { result ≡ property_of role }
 {
     match role.base {
