@@ -30,3 +30,4 @@ pub mod AnnotationLemmas
 pub mod EntityLemmas
 pub mod DocumentLemmas
 pub mod PrologueLemmas
+pub mod OntologyLemmas

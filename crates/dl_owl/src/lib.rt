@@ -17,6 +17,7 @@ mod laws;
 mod left;
 mod list;
 mod name;
+mod ontology;
 mod pair;
 mod prefixes;
 mod prologue;
