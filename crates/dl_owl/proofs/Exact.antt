@@ -166,21 +166,22 @@ module _ (document : Document) (final : List Text) where
       let inner = last_sound e met h in (([], (annotations.AnnotationsThen.none, (λ rest is. cc), inner.0)), inner.1)
   last_sound e met h = absurd (cc)
 
-  -- what is read from here on is meant, not too deep and fits
-  abbrev pub IsRight : Expected → Met → List Symbol → Type 0
-  IsRight e met ss =
-      Means document final met.prefixes e met.names ss × (is_shallow met.depth ss ≡ true) × (length final ≤ max_names)
+  -- what is read from here on is meant, not too deep, and fits where the names before it do
+  abbrev pub IsRead : Expected → Met → List Symbol → Type 0
+  IsRead e met ss =
+      Means document final met.prefixes e met.names ss × (is_shallow met.depth ss ≡ true)
+      × (length met.names ≤ max_names → length final ≤ max_names)
 
   module _ (tokens : List Placed)
-      (hyp : (e : Expected) (met : Met) → length met.names ≤ max_names → outcome e met tokens ≡ gives document final → IsRight e met (symbols_of tokens))
-      (met : Met) (fits : length met.names ≤ max_names) (t : Placed) where
+      (hyp : (e : Expected) (met : Met) → outcome e met tokens ≡ gives document final → IsRead e met (symbols_of tokens))
+      (met : Met) (t : Placed) where
     abbrev onward : Expected → Met → Outcome
     onward next later = outcome next later tokens
 
-    abbrev IsRightMove : Move → Type 0
-    IsRightMove m =
+    abbrev IsReadMove : Move → Type 0
+    IsReadMove m =
         Comes document final met.prefixes m met.names (symbols_of tokens) × (is_shallow met.depth (t.symbol ∷ symbols_of tokens) ≡ true)
-        × (length final ≤ max_names)
+        × (length met.names ≤ max_names → length final ≤ max_names)
 
     -- at a depth that is not too deep
     not_deep : (go : Met → Outcome) → at_depth met t go ≡ gives document final
@@ -196,10 +197,10 @@ module _ (document : Document) (final : List Text) where
         → is_shallow met.depth (t.symbol ∷ symbols_of tokens) ≡ true
     shallow is h = ap (λ b. not b && is_shallow (depth_after t.symbol met.depth) (symbols_of tokens)) is ∙ h
 
-    move-sound : (m : Move) → outcome_of met t onward m ≡ gives document final → IsRightMove m
+    move-sound : (m : Move) → outcome_of met t onward m ≡ gives document final → IsReadMove m
     move-sound (goes e) h =
         let go = not_deep (λ later. outcome e later tokens) h in
-        let inner = hyp e (deeper met t) fits go.1 in (inner.0, shallow go.0 inner.1, inner.2)
+        let inner = hyp e (deeper met t) go.1 in (inner.0, shallow go.0 inner.1, inner.2)
     move-sound (takes_name text k) h =
         let go =
         not_deep
@@ -209,27 +210,33 @@ module _ (document : Document) (final : List Text) where
       where
         by : (b : Bool) → is_full met.names text ≡ b → is_too_deep t.symbol met.depth ≡ false
             → cond b (fails too_many_names t.at) (outcome (k (place_of (names_after met.names text) text)) (record (deeper met t) { names = names_after met.names text }) tokens) ≡ gives document final
-            → IsRightMove (takes_name text k)
+            → IsReadMove (takes_name text k)
         by true full is g = absurd (cc)
         by false full is g =
             let inner =
             hyp (k (place_of (names_after met.names text) text)) (record (deeper met t) { names = names_after met.names text })
-            (room met.names text full fits) g in
-            (inner.0, shallow is inner.1, inner.2)
+            g in
+            (inner.0, shallow is inner.1, λ fits. inner.2 (room met.names text full fits))
     move-sound (declares name iri e) h =
         let go = not_deep (λ later. outcome e (record later { prefixes = met.prefixes ++ (name, iri) ∷ [] }) tokens) h in
-        let inner = hyp e (record (deeper met t) { prefixes = met.prefixes ++ (name, iri) ∷ [] }) fits go.1 in
+        let inner = hyp e (record (deeper met t) { prefixes = met.prefixes ++ (name, iri) ∷ [] }) go.1 in
         (inner.0, shallow go.0 inner.1, inner.2)
     move-sound (refuses cause) h = absurd (cc)
 
-  pub sound : (tokens : List Placed) (e : Expected) (met : Met) → length met.names ≤ max_names
-      → outcome e met tokens ≡ gives document final → IsRight e met (symbols_of tokens)
-  sound [] e met fits h = let last = last_sound e met h in (last.0, refl, omega (arith, fits, ap length last.1))
-  sound (t ∷ tokens) e met fits h =
-      let move = move-sound tokens (sound tokens) met fits t (move_of met.prefixes e t.symbol) h in
+  pub sound : (tokens : List Placed) (e : Expected) (met : Met)
+      → outcome e met tokens ≡ gives document final → IsRead e met (symbols_of tokens)
+  sound [] e met h =
+      let last = last_sound e met h in (last.0, refl, λ fits. subst (λ l. length l ≤ max_names) last.1 fits)
+  sound (t ∷ tokens) e met h =
+      let move = move-sound tokens (sound tokens) met t (move_of met.prefixes e t.symbol) h in
       (forth document final e met.prefixes met.names t.symbol (symbols_of tokens) move.0, move.1, move.2)
 
   -- ---- and back
+
+  -- what is meant from here on is not too deep and fits
+  abbrev pub IsRight : Expected → Met → List Symbol → Type 0
+  IsRight e met ss =
+      Means document final met.prefixes e met.names ss × (is_shallow met.depth ss ≡ true) × (length final ≤ max_names)
 
   grows : (ss : List Symbol) (e : Expected) (p : Prefixes) (names : List Text) → Means document final p e names ss → length names ≤ length final
   grows [] e p names h =

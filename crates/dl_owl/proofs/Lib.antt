@@ -31,3 +31,5 @@ pub mod EntityLemmas
 pub mod DocumentLemmas
 pub mod PrologueLemmas
 pub mod OntologyLemmas
+pub mod PlaceLemmas
+pub mod ReadingLemmas

@@ -28,7 +28,7 @@ module _ (names : List Text) (tokens : List Placed) (document : Document) (after
   pub ontology_is : length names ≤ max_names → outcome prologue (start names) tokens ≡ gives document after
       → IsOntology names (symbols_of tokens) document after × Limits
   ontology_is fits h =
-      let right = sound document after tokens prologue (start names) fits h in
+      let right = sound document after tokens prologue (start names) h in
       let text = right.0 in (
         record {
           prefixes = text.prefixes;
@@ -40,7 +40,7 @@ module _ (names : List Text) (tokens : List Placed) (document : Document) (after
           annotated = text.then.1.1.1.0;
           read = text.then.1.1.1.1;
         },
-        (right.1, right.2),
+        (right.1, right.2 fits),
       )
 
   pub is_ontology : IsOntology names (symbols_of tokens) document after → Limits → outcome prologue (start names) tokens ≡ gives document after
@@ -59,8 +59,8 @@ module _ (names : List Text) (tokens : List Placed) (document : Document) (after
   pub lone_is : length names ≤ max_names → outcome lone_axiom (start names) tokens ≡ gives document after
       → IsLoneAxiom names (symbols_of tokens) document after × Limits
   lone_is fits h =
-      let right = sound document after tokens lone_axiom (start names) fits h in
-      let text = right.0 in (record { item = text.item; read = text.read; is = text.is }, (right.1, right.2))
+      let right = sound document after tokens lone_axiom (start names) h in
+      let text = right.0 in (record { item = text.item; read = text.read; is = text.is }, (right.1, right.2 fits))
 
   pub is_lone : IsLoneAxiom names (symbols_of tokens) document after → Limits → outcome lone_axiom (start names) tokens ≡ gives document after
   is_lone h limits =

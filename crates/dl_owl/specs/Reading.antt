@@ -4,7 +4,8 @@ use Rattle.dl_names.specs.NameList.{Text, max_names, has_name, names_after, plac
 use Rattle.dl_owl.specs.declared.document.Document.{Document}
 use Rattle.dl_owl.specs.Symbols.{Symbol, opening, closing, Placed, AreTokens}
 use Rattle.dl_owl.specs.Prefixes.{Prefixes, predefined}
-use Rattle.dl_owl.specs.Causes.{Cause, too_deep, too_many_names}
+use Rattle.dl_owl.specs.declared.fault.OwlFault.{OwlFault}
+use Rattle.dl_owl.specs.Causes.{Cause, too_deep, too_many_names, fault_of}
 use Rattle.dl_owl.specs.Expected.{Expected, done, annotations_then, Move, goes, takes_name, declares, refuses}
 use Rattle.dl_owl.specs.Steps.{move_of}
 
@@ -103,3 +104,10 @@ pub record ReadsFault (bytes : List ℕ) (e : Expected) (names : List Text) (cau
   pub tokens : List Placed
   pub are : AreTokens bytes false 0 tokens
   pub comes : outcome e (start names) tokens ≡ fails cause at
+
+-- reading the bytes gives this fault
+pub record IsFault (bytes : List ℕ) (e : Expected) (names : List Text) (fault : OwlFault) : Type 0 where
+  pub cause : Cause
+  pub at : ℕ
+  pub is : fault ≡ fault_of cause at
+  pub read : ReadsFault bytes e names cause at

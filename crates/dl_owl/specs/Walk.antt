@@ -98,6 +98,18 @@ Expects s p text other (Err fault) =
     (names : List Text) (e : Expected) (k : Text → Move) (cause : Cause) → other ≡ fault_of cause s.token.start
     → move_of p e (symbol_at s) ≡ at_iri p (symbol_at s) k (refuses cause) → Faults e (here s p names) fault
 
+-- the first token of the bytes stands next
+pub record Begins (bytes : List ℕ) (s : Spot) : Type 0 where
+  pub is : s.bytes ≡ bytes
+  pub flat : s.depth ≡ 0
+  pub first : IsNextToken bytes 0 s.token
+
+-- where none is the first, that is the fault
+pub record NoneFirst (bytes : List ℕ) (fault : OwlFault) : Type 0 where
+  pub at : ℕ
+  pub is : fault ≡ Syntax at
+  pub none : IsFaultAt bytes 0 at
+
 -- the next token is passed over
 pub record Moved (old new : Spot) : Type 0 where
   pub bytes : new.bytes ≡ old.bytes

@@ -1,12 +1,12 @@
 // The place in the tokens of an ontology at which its reader stands.
-ghost use Rattle.std.specs.Prelude.{◌≡◌, ◌+◌, ◌-◌, ◌≤◌, ◌↔◌, IsUtf8, IsTrue, MatchOption, false, List, length, slice_range};
+ghost use Rattle.std.specs.Prelude.{◌≡◌, ◌+◌, ◌-◌, ◌≤◌, ◌↔◌, IsUtf8, IsTrue, IfOk, IfErr, MatchOption, false, List, length, slice_range};
 ghost use Rattle.dl_lex.specs.Grammar.{IsTokenAt};
 ghost use Rattle.dl_names.specs.NameList.{Text};
 ghost use Rattle.dl_owl.specs.Prefixes.{Prefixes, prefix_of, local_of};
 ghost use Rattle.dl_owl.specs.Expected.{open_then, close_then};
 ghost use Rattle.dl_owl.specs.Symbols.{opening, closing};
 ghost use Rattle.dl_owl.specs.Reading.{is_too_deep, depth_after};
-ghost use Rattle.dl_owl.specs.Walk.{here, Advances, Passes};
+ghost use Rattle.dl_owl.specs.Walk.{here, Begins, NoneFirst, Advances, Passes};
 
 use crate::fault::OwlFault;
 use dl_lex::{Keyword, LexFault, Lexer, Token, TokenKind};
@@ -42,6 +42,23 @@ impl<'a> Model for Cursor<'a> {
 }
 
 impl<'a> Cursor<'a> {
+    /// At the first token of the bytes, with no parenthesis open.
+    pub(crate) fn new(bytes: &'a [u8]) -> Result<Cursor<'a>, OwlFault>
+        ensures begins { IfOk result (λ at. Begins bytes.now at) }
+        ensures none { IfErr result (λ fault. NoneFirst bytes.now fault) }
+    {
+        let mut lexer = Lexer::new(bytes);
+        match lexer.next() {
+            Ok(token) => Ok(Cursor {
+                bytes,
+                lexer,
+                token,
+                depth: 0,
+            }),
+            Err(LexFault { at }) => Err(OwlFault::Syntax { at }),
+        }
+    }
+
     /// The kind of the next token.
     pub(crate) fn kind(&self) -> TokenKind
         ensures { result ≡ self.now.token.kind }

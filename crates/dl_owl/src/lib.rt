@@ -21,6 +21,7 @@ mod ontology;
 mod pair;
 mod prefixes;
 mod prologue;
+mod reading;
 mod refused;
 mod right;
 mod role;
@@ -32,4 +33,5 @@ pub use fault::{Construct, OwlFault};
 pub use laws::{
     faults_come_at_their_tokens, reading_gives_one_result, values_are_those_of_the_grammar,
 };
+pub use reading::{read_axiom, read_ontology};
 pub use text::axiom_text;

@@ -2,7 +2,7 @@
 ghost use Rattle.std.specs.Prelude.{◌≡◌, ◌↔◌, ℕ, suc, IsTrue, List, if◌then◌else◌};
 ghost use Rattle.dl_names.specs.NameList.{Text};
 ghost use Rattle.dl_owl.specs.Documents.{Ends, Finishes, Leads};
-ghost use Rattle.dl_owl.specs.Expected.{prologue, title, annotations_first, items, finish, open_then, iri_then};
+ghost use Rattle.dl_owl.specs.Expected.{prologue, title, annotations_first, items, lone_axiom, finish, open_then, iri_then};
 ghost use Rattle.dl_owl.specs.Items.{empty_document};
 ghost use Rattle.dl_owl.specs.Prefixes.{Prefixes, predefined};
 ghost use Rattle.dl_owl.specs.Steps.{move_of};
@@ -133,5 +133,25 @@ pub(crate) fn whole(
     prologue(at, &mut prefixes)?;
     head(at, &prefixes, &mut text)?;
     let document = items(alloc, at, &prefixes, names, &mut text)?;
+    end(at, document)
+}
+
+/// One axiom alone, up to the end of the text.
+pub(crate) fn lone(
+    alloc: Global,
+    at: &mut Cursor,
+    names: &mut NameSet,
+) -> Result<Document, OwlFault>
+    ensures { Ends lone_axiom (here at.old predefined names.old) names.new result }
+{
+    let Ok(prefixes) = Prefixes::new(alloc) else {
+        return Err(OwlFault::NoMemory);
+    };
+    let mut text = String::new(alloc);
+    let item = axiom(alloc, at, &prefixes, names, &mut text)?;
+    let mut document = Document::new(alloc);
+    let Ok(()) = document.add(item) else {
+        return Err(OwlFault::NoMemory);
+    };
     end(at, document)
 }
