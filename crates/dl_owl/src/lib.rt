@@ -21,6 +21,7 @@ mod ontology;
 mod pair;
 mod prefixes;
 mod prologue;
+mod ranked;
 mod reading;
 mod refused;
 mod right;
