@@ -1,6 +1,5 @@
 -- What a reader of annotations looks at: tokens without a text that fit, and a token that is none of them.
-use Rattle.std.proofs.Common.{◌≡◌, ◌≢◌, ℕ, Bool, false, Result, Ok, Err, List, refl, sym, ap, ◌∙◌, slice_range}
-use Rattle.dl_lex.specs.declared.keyword.Keyword.{Keyword}
+use Rattle.std.proofs.Common.{◌≡◌, ◌≢◌, ℕ, false, Result, Ok, Err, List, refl, sym, ap, ◌∙◌, slice_range}
 use Rattle.dl_lex.specs.declared.keyword.Keyword.TheVariants.{Annotation}
 use Rattle.dl_lex.specs.declared.token.TokenKind.{TokenKind}
 use Rattle.dl_lex.specs.declared.token.TokenKind.TheVariants as token

@@ -1,5 +1,5 @@
 -- What a reader of an axiom looks at: its keyword.
-use Rattle.std.proofs.Common.{◌≡◌, ℕ, Bool, true, false, true≢false, Option, Some, None, Result, Ok, Err, List, refl, sym, ap, ◌∙◌, subst, slice_range}
+use Rattle.std.proofs.Common.{◌≡◌, ℕ, true, false, true≢false, Result, Ok, Err, List, refl, sym, ap, ◌∙◌, subst, slice_range}
 use Rattle.dl_lex.specs.declared.keyword.Keyword.{Keyword}
 use Rattle.dl_lex.specs.declared.keyword.Keyword.TheVariants.{SubClassOf, EquivalentClasses, DisjointClasses, SubObjectPropertyOf, EquivalentObjectProperties, DisjointObjectProperties, InverseObjectProperties, ObjectPropertyDomain, ObjectPropertyRange, SymmetricObjectProperty, AsymmetricObjectProperty, IrreflexiveObjectProperty, ClassAssertion, ObjectPropertyAssertion, DifferentIndividuals, Declaration, AnnotationAssertion, SubAnnotationPropertyOf, AnnotationPropertyDomain, AnnotationPropertyRange}
 use Rattle.dl_lex.specs.declared.token.TokenKind.{TokenKind}
@@ -18,8 +18,10 @@ use Rattle.dl_owl.specs.Walk.{Spot, symbol_at, Here, Goes, Faults, Reads, Follow
 use Rattle.dl_owl.proofs.WalkLemmas.{goes-then, goes-faults}
 
 -- what is read behind what was passed over
-pub follows_behind : {V : Type 0} (m : (V → Expected) → Move) (f : (V → Expected) → Expected) (a b c : Here) (r : Result V OwlFault)
-    → ((e : Expected) (k : V → Expected) → move_of a.prefixes e (symbol_at a.spot) ≡ m k → Goes e a (f k) b) → Reads f b c r
+pub follows_behind : {V : Type 0} (m : (V → Expected) → Move) (f : (V → Expected) → Expected) (a b c : Here)
+    (r : Result V OwlFault)
+    → ((e : Expected) (k : V → Expected) → move_of a.prefixes e (symbol_at a.spot) ≡ m k → Goes e a (f k) b)
+    → Reads f b c r
     → Follows m a c r
 follows_behind m f a b c (Ok v) first h = λ e k is. goes-then e a (f k) b (k v) c (first e k is) (h k)
 follows_behind m f a b c (Err fault) first h = λ e k is. goes-faults e a (f k) b fault (first e k is) (h k)
@@ -29,7 +31,8 @@ pub axiom_no_word : (kind : TokenKind) (bytes : List ℕ) (k : Item → Expected
 axiom_no_word (Word w) bytes k not = absurd (not w refl)
 axiom_no_word kind bytes k not = refl
 
-pub axiom_refused : (w : Keyword) (k : Item → Expected) → is_axiom w ≡ false → axiom_next k (keyword w) ≡ refuses (refused_axiom w)
+pub axiom_refused : (w : Keyword) (k : Item → Expected) → is_axiom w ≡ false → axiom_next k (keyword w) ≡ refuses
+    (refused_axiom w)
 axiom_refused SubClassOf k is = absurd (true≢false is)
 axiom_refused EquivalentClasses k is = absurd (true≢false is)
 axiom_refused DisjointClasses k is = absurd (true≢false is)
@@ -52,7 +55,8 @@ axiom_refused AnnotationPropertyDomain k is = absurd (true≢false is)
 axiom_refused AnnotationPropertyRange k is = absurd (true≢false is)
 axiom_refused w k is = refl
 
-pub axiom_begins : (w : Keyword) (k : Item → Expected) → is_axiom w ≡ true → axiom_next k (keyword w) ≡ begins (operands_then w k)
+pub axiom_begins : (w : Keyword) (k : Item → Expected) → is_axiom w ≡ true → axiom_next k (keyword w) ≡ begins
+    (operands_then w k)
 axiom_begins SubClassOf k is = refl
 axiom_begins EquivalentClasses k is = refl
 axiom_begins DisjointClasses k is = refl
@@ -80,7 +84,8 @@ axiom_begins w k is = absurd (true≢false (sym is))
 abbrev pub annotations_behind : (Item → Expected) → Expected
 annotations_behind k = iri_then (iri_then (close_then (k no_effect)))
 
-pub reads_as : {V : Type 0} (e f : (V → Expected) → Expected) (a b : Here) (r : Result V OwlFault) → ((k : V → Expected) → e k ≡ f k)
+pub reads_as : {V : Type 0} (e f : (V → Expected) → Expected) (a b : Here) (r : Result V OwlFault)
+    → ((k : V → Expected) → e k ≡ f k)
     → Reads f a b r → Reads e a b r
 reads_as e f a b (Ok v) same h = λ k. subst (λ x. Goes x a (k v) b) (sym (same k)) (h k)
 reads_as e f a b (Err fault) same h = λ k. subst (λ x. Faults x a fault) (sym (same k)) (h k)
@@ -107,14 +112,17 @@ operands_other SubClassOf k h0 h1 h2 h3 h4 h5 h6 h7 h8 h9 h10 h11 h12 h13 h14 h1
 operands_other EquivalentClasses k h0 h1 h2 h3 h4 h5 h6 h7 h8 h9 h10 h11 h12 h13 h14 h15 h16 = absurd (h1 refl)
 operands_other DisjointClasses k h0 h1 h2 h3 h4 h5 h6 h7 h8 h9 h10 h11 h12 h13 h14 h15 h16 = absurd (h2 refl)
 operands_other SubObjectPropertyOf k h0 h1 h2 h3 h4 h5 h6 h7 h8 h9 h10 h11 h12 h13 h14 h15 h16 = absurd (h3 refl)
-operands_other EquivalentObjectProperties k h0 h1 h2 h3 h4 h5 h6 h7 h8 h9 h10 h11 h12 h13 h14 h15 h16 = absurd (h4 refl)
+operands_other EquivalentObjectProperties k h0 h1 h2 h3 h4 h5 h6 h7 h8 h9 h10 h11 h12 h13 h14 h15 h16 = absurd
+    (h4 refl)
 operands_other DisjointObjectProperties k h0 h1 h2 h3 h4 h5 h6 h7 h8 h9 h10 h11 h12 h13 h14 h15 h16 = absurd (h5 refl)
 operands_other InverseObjectProperties k h0 h1 h2 h3 h4 h5 h6 h7 h8 h9 h10 h11 h12 h13 h14 h15 h16 = absurd (h6 refl)
 operands_other ObjectPropertyDomain k h0 h1 h2 h3 h4 h5 h6 h7 h8 h9 h10 h11 h12 h13 h14 h15 h16 = absurd (h7 refl)
 operands_other ObjectPropertyRange k h0 h1 h2 h3 h4 h5 h6 h7 h8 h9 h10 h11 h12 h13 h14 h15 h16 = absurd (h8 refl)
 operands_other SymmetricObjectProperty k h0 h1 h2 h3 h4 h5 h6 h7 h8 h9 h10 h11 h12 h13 h14 h15 h16 = absurd (h9 refl)
-operands_other AsymmetricObjectProperty k h0 h1 h2 h3 h4 h5 h6 h7 h8 h9 h10 h11 h12 h13 h14 h15 h16 = absurd (h10 refl)
-operands_other IrreflexiveObjectProperty k h0 h1 h2 h3 h4 h5 h6 h7 h8 h9 h10 h11 h12 h13 h14 h15 h16 = absurd (h11 refl)
+operands_other AsymmetricObjectProperty k h0 h1 h2 h3 h4 h5 h6 h7 h8 h9 h10 h11 h12 h13 h14 h15 h16 = absurd
+    (h10 refl)
+operands_other IrreflexiveObjectProperty k h0 h1 h2 h3 h4 h5 h6 h7 h8 h9 h10 h11 h12 h13 h14 h15 h16 = absurd
+    (h11 refl)
 operands_other ClassAssertion k h0 h1 h2 h3 h4 h5 h6 h7 h8 h9 h10 h11 h12 h13 h14 h15 h16 = absurd (h12 refl)
 operands_other ObjectPropertyAssertion k h0 h1 h2 h3 h4 h5 h6 h7 h8 h9 h10 h11 h12 h13 h14 h15 h16 = absurd (h13 refl)
 operands_other DifferentIndividuals k h0 h1 h2 h3 h4 h5 h6 h7 h8 h9 h10 h11 h12 h13 h14 h15 h16 = absurd (h14 refl)
@@ -124,14 +132,15 @@ operands_other w k h0 h1 h2 h3 h4 h5 h6 h7 h8 h9 h10 h11 h12 h13 h14 h15 h16 = r
 
 -- ---- wherever an axiom is expected
 
-module _ (w : Keyword) (e : Expected) (k : Item → Expected) (s : Spot) (p : Prefixes) (is : s.token.kind ≡ Word w) where
-  word_is : symbol_at s ≡ keyword w
-  word_is = ap (λ kind. symbol_of kind (slice_range s.bytes s.token.start s.token.end)) is
+module _ (w : Keyword) (e : Expected) (k : Item → Expected) (s : Spot) (p : Prefixes) (is : s.token.kind ≡ Word w)
+  where
+    word_is : symbol_at s ≡ keyword w
+    word_is = ap (λ kind. symbol_of kind (slice_range s.bytes s.token.start s.token.end)) is
 
-  pub axiom_stops : is_axiom w ≡ false → move_of p e (symbol_at s) ≡ axiom_next k (symbol_at s)
-      → move_of p e (symbol_at s) ≡ refuses (refused_axiom w)
-  axiom_stops none same = same ∙ ap (axiom_next k) word_is ∙ axiom_refused w k none
+    pub axiom_stops : is_axiom w ≡ false → move_of p e (symbol_at s) ≡ axiom_next k (symbol_at s)
+        → move_of p e (symbol_at s) ≡ refuses (refused_axiom w)
+    axiom_stops none same = same ∙ ap (axiom_next k) word_is ∙ axiom_refused w k none
 
-  pub axiom_fits : is_axiom w ≡ true → move_of p e (symbol_at s) ≡ axiom_next k (symbol_at s)
-      → move_of p e (keyword w) ≡ begins (operands_then w k)
-  axiom_fits one same = ap (move_of p e) (sym word_is) ∙ same ∙ ap (axiom_next k) word_is ∙ axiom_begins w k one
+    pub axiom_fits : is_axiom w ≡ true → move_of p e (symbol_at s) ≡ axiom_next k (symbol_at s)
+        → move_of p e (keyword w) ≡ begins (operands_then w k)
+    axiom_fits one same = ap (move_of p e) (sym word_is) ∙ same ∙ ap (axiom_next k) word_is ∙ axiom_begins w k one

@@ -1,5 +1,5 @@
 -- Individuals that are read one after another, each none of those before.
-use Rattle.std.proofs.Common.{◌≡◌, ℕ, suc, zero, Bool, true, false, ◌||◌, not, Result, Ok, Err, if◌then◌else◌, List, [], ◌∷◌, ◌++◌, map, String, Global, string_bytes, refl, sym, ap, ◌∙◌, subst, slice_range, true≢false}
+use Rattle.std.proofs.Common.{◌≡◌, ℕ, zero, Bool, true, false, ◌||◌, not, Result, Ok, Err, if◌then◌else◌, List, [], ◌∷◌, map, String, Global, string_bytes, refl, sym, ap, ◌∙◌, slice_range, true≢false}
 use Rattle.std.specs.List.{list_any}
 use Rattle.std.specs.Str.{bytes_eq}
 use Rattle.std.specs.String.{string_eq}
@@ -17,8 +17,8 @@ use Rattle.dl_owl.specs.NamesNext.{is_free, IsIri}
 use Rattle.dl_owl.specs.Causes.{reserved}
 use Rattle.dl_owl.specs.Refused.{keyword_left_out}
 use Rattle.dl_owl.specs.Expected.{Expected, close_then, different_close, Move, goes, refuses}
-use Rattle.dl_owl.specs.Steps.{at_iri, refused_individual, different_next, move_of}
-use Rattle.dl_owl.specs.Walk.{symbol_at, Here, Goes, Faults, Passes}
+use Rattle.dl_owl.specs.Steps.{refused_individual, different_next, move_of}
+use Rattle.dl_owl.specs.Walk.{Here, Goes, Faults, Passes}
 use Rattle.dl_owl.specs.Different.{HaveSame, ReadsDifferent}
 use Rattle.dl_owl.proofs.IriLemmas.{at_iri-is}
 use Rattle.dl_owl.proofs.WalkLemmas.{goes-then, goes-faults, goes_as}
@@ -26,10 +26,13 @@ use Rattle.dl_owl.proofs.WalkLemmas.{goes-then, goes-faults, goes_as}
 -- ---- the set of those before
 
 -- a string is new where its text is
-pub is_new_shown : (strings : List (String Global)) (names : List Text) → map string_bytes strings ≡ names → (text : Text)
-    (string : String Global) → string_bytes string ≡ text → not (list_any (string_eq string) strings) ≡ not (has_name names text)
+pub is_new_shown : (strings : List (String Global)) (names : List Text) → map string_bytes strings ≡ names
+    → (text : Text)
+    (string : String Global) → string_bytes string ≡ text → not (list_any (string_eq string) strings) ≡ not
+    (has_name names text)
 is_new_shown strings names shown text string bytes =
-    ap not (ap (λ t. list_any (λ k. bytes_eq t (string_bytes k)) strings) bytes ∙ sym (has_name_shown strings names shown text))
+    ap not (ap (λ t. list_any (λ k. bytes_eq t (string_bytes k)) strings) bytes
+    ∙ sym (has_name_shown strings names shown text))
 
 or_swap : (a b : Bool) → (a || b) ≡ (b || (a || false))
 or_swap true true = refl
@@ -54,8 +57,10 @@ individual_by before k text =
     if has_name before text then refuses (keyword_left_out DifferentIndividuals)
     else (if is_free text then goes (k (text ∷ before)) else refuses reserved)
 
-module _ (p : Prefixes) (s : Symbol) (text : Text) (iri : IsIri p s text) (before : List Text) (k : List Text → Expected) where
-  pub individual_twice : has_name before text ≡ true → different_next p before k s ≡ refuses (keyword_left_out DifferentIndividuals)
+module _ (p : Prefixes) (s : Symbol) (text : Text) (iri : IsIri p s text) (before : List Text) (k : List Text
+    → Expected) where
+  pub individual_twice : has_name before text ≡ true → different_next p before k s ≡ refuses
+      (keyword_left_out DifferentIndividuals)
   individual_twice twice =
       at_iri-is p s text (individual_by before k) (refuses (refused_individual s)) iri
       ∙ ap
@@ -83,7 +88,8 @@ pub record Different (n : ℕ) (met : List Text) (a b : Here) : Type 0 where
   pub same : HaveSame before met
   pub on : (e : Expected) → Goes (different_close 2 [] e) a (different_close n before e) b
 
-pub different_first : (a b : Here) (met later : List Text) → met ≡ [] → ReadsDifferent a b met later (Ok tt) → Different 1 later a b
+pub different_first : (a b : Here) (met later : List Text) → met ≡ [] → ReadsDifferent a b met later (Ok tt)
+    → Different 1 later a b
 different_first a b met later none h =
     let one = h [] (λ t. ap (λ l. has_name l t) (sym none)) in
     record {
@@ -97,7 +103,8 @@ pub different_first_faults : (a b : Here) (met later : List Text) (fault : OwlFa
 different_first_faults a b met later fault none h e =
     h [] (λ t. ap (λ l. has_name l t) (sym none)) (different_close 2 [] e) (λ more. different_close 1 more e) refl
 
-different_other : (p : Prefixes) (before : List Text) (e : Expected) (kind : TokenKind) (text : List ℕ) → (kind ≡ Close → ⊥)
+different_other : (p : Prefixes) (before : List Text) (e : Expected) (kind : TokenKind) (text : List ℕ)
+    → (kind ≡ Close → ⊥)
     → move_of p (different_close zero before e) (symbol_of kind text)
     ≡ different_next p before (λ more. different_close zero more e) (symbol_of kind text)
 different_other p before e Close text not = absurd (not refl)
@@ -116,11 +123,13 @@ module _ (met later : List Text) (a b d : Here) where
         before = one.0 ∷ s.before;
         same = one.1;
         on = λ e.
-            goes-then (different_close 2 [] e) a (different_close 1 s.before e) b (different_close 0 (one.0 ∷ s.before) e) d (s.on e)
+            goes-then (different_close 2 [] e) a (different_close 1 s.before e) b
+            (different_close 0 (one.0 ∷ s.before) e) d (s.on e)
             (one.2 (different_close 1 s.before e) (λ more. different_close 0 more e) refl);
       }
 
-  pub different_second_faults : (fault : OwlFault) → Different 1 met a b → ReadsDifferent b d met later (Err fault) → (e : Expected)
+  pub different_second_faults : (fault : OwlFault) → Different 1 met a b → ReadsDifferent b d met later (Err fault)
+      → (e : Expected)
       → Faults (different_close 2 [] e) a fault
   different_second_faults fault s h e =
       goes-faults (different_close 2 [] e) a (different_close 1 s.before e) b fault (s.on e)
@@ -134,7 +143,8 @@ module _ (met later : List Text) (a b d : Here) where
         before = one.0 ∷ s.before;
         same = one.1;
         on = λ e.
-            goes-then (different_close 2 [] e) a (different_close 0 s.before e) b (different_close 0 (one.0 ∷ s.before) e) d (s.on e)
+            goes-then (different_close 2 [] e) a (different_close 0 s.before e) b
+            (different_close 0 (one.0 ∷ s.before) e) d (s.on e)
             (one.2 (different_close 0 s.before e) (λ more. different_close 0 more e)
             (different_other b.prefixes s.before e b.spot.token.kind
             (slice_range b.spot.bytes b.spot.token.start b.spot.token.end) not));
@@ -149,39 +159,47 @@ module _ (met later : List Text) (a b d : Here) where
       (slice_range b.spot.bytes b.spot.token.start b.spot.token.end) not))
 
   -- the next one goes ahead
-  pub different_ahead : (s : Different 0 met a b) → (b.spot.token.kind ≡ Close → ⊥) → ReadsDifferent b d met later (Ok tt) → (e : Expected)
+  pub different_ahead : (s : Different 0 met a b) → (b.spot.token.kind ≡ Close → ⊥) → ReadsDifferent b d met later
+      (Ok tt) → (e : Expected)
       → (more : List Text) × Goes (different_close 0 s.before e) b (different_close 0 more e) d
   different_ahead s not h e =
-      let one = h s.before s.same in
-      (one.0 ∷ s.before, one.2 (different_close 0 s.before e) (λ more. different_close 0 more e)
-      (different_other b.prefixes s.before e b.spot.token.kind
-      (slice_range b.spot.bytes b.spot.token.start b.spot.token.end) not))
+      let one = h s.before s.same in (
+        one.0 ∷ s.before,
+        one.2 (different_close 0 s.before e) (λ more. different_close 0 more e)
+            (different_other b.prefixes s.before e b.spot.token.kind
+            (slice_range b.spot.bytes b.spot.token.start b.spot.token.end) not),
+      )
 
-pub different_closes : (met : List Text) (a b d : Here) (r : Result (Unit {0}) OwlFault) → Different 0 met a b → b.spot.token.kind ≡ Close
+pub different_closes : (met : List Text) (a b d : Here) (r : Result (Unit {0}) OwlFault) → Different 0 met a b
+    → b.spot.token.kind ≡ Close
     → Passes close_then b d r → Passes (different_close 2 []) a d r
 different_closes met a b d (Ok u) s is h =
     λ e.
     goes-then (different_close 2 [] e) a (close_then e) b e d
     (goes_as (different_close 2 [] e) a (different_close 0 s.before e) (close_then e) b
-    (different_end b.prefixes s.before e b.spot.token.kind (slice_range b.spot.bytes b.spot.token.start b.spot.token.end) is) (s.on e))
+    (different_end b.prefixes s.before e b.spot.token.kind (slice_range b.spot.bytes b.spot.token.start
+    b.spot.token.end) is) (s.on e))
     (h e)
 different_closes met a b d (Err fault) s is h =
     λ e.
     goes-faults (different_close 2 [] e) a (close_then e) b fault
     (goes_as (different_close 2 [] e) a (different_close 0 s.before e) (close_then e) b
-    (different_end b.prefixes s.before e b.spot.token.kind (slice_range b.spot.bytes b.spot.token.start b.spot.token.end) is) (s.on e))
+    (different_end b.prefixes s.before e b.spot.token.kind (slice_range b.spot.bytes b.spot.token.start
+    b.spot.token.end) is) (s.on e))
     (h e)
 
 -- ---- what the set told
 
-pub was_new : (names : List Text) (text : Text) (new : Bool) → new ≡ not (has_name names text) → new ≡ true → has_name names text ≡ false
+pub was_new : (names : List Text) (text : Text) (new : Bool) → new ≡ not (has_name names text) → new ≡ true
+    → has_name names text ≡ false
 was_new names text new told is = by (has_name names text) refl
   where
     by : (b : Bool) → has_name names text ≡ b → has_name names text ≡ false
     by false same = same
     by true same = absurd (true≢false (sym is ∙ told ∙ ap not same))
 
-pub was_there : (names : List Text) (text : Text) (new : Bool) → new ≡ not (has_name names text) → new ≡ false → has_name names text ≡ true
+pub was_there : (names : List Text) (text : Text) (new : Bool) → new ≡ not (has_name names text) → new ≡ false
+    → has_name names text ≡ true
 was_there names text new told is = by (has_name names text) refl
   where
     by : (b : Bool) → has_name names text ≡ b → has_name names text ≡ true

@@ -1,14 +1,13 @@
 -- What a reader of the two roles of an inclusion looks at, and one of individuals that are not named.
-use Rattle.std.proofs.Common.{◌≡◌, ℕ, Bool, true, false, Result, Ok, Err, if◌then◌else◌, List, refl, sym, ap, ◌∙◌}
+use Rattle.std.proofs.Common.{◌≡◌, ℕ, Bool, true, false, if◌then◌else◌, List, refl, sym, ap, ◌∙◌}
 use Rattle.std.specs.Str.{bytes_eq}
-use Rattle.dl_lex.specs.declared.keyword.Keyword.{Keyword}
 use Rattle.dl_lex.specs.declared.keyword.Keyword.TheVariants.{ObjectInverseOf, ObjectPropertyChain}
 use Rattle.dl_lex.specs.declared.token.TokenKind.{TokenKind}
 use Rattle.dl_lex.specs.declared.token.TokenKind.TheVariants.{Word}
 use Rattle.dl_names.specs.NameList.{Text}
 use Rattle.dl_terms.specs.Roles.{named}
 use Rattle.dl_terms.specs.declared.role.Role.{Role}
-use Rattle.dl_owl.specs.Symbols.{Symbol, keyword, symbol_of}
+use Rattle.dl_owl.specs.Symbols.{Symbol, symbol_of}
 use Rattle.dl_owl.specs.Prefixes.{Prefixes}
 use Rattle.dl_owl.specs.NamesNext.{owl_top_object_property, is_free, IsIri}
 use Rattle.dl_owl.specs.Causes.{syntax, not_ql, reserved}
@@ -18,11 +17,13 @@ use Rattle.dl_owl.proofs.IriLemmas.{at_iri-is}
 
 -- ---- the first role
 
-pub chain_refused : (kind : TokenKind) (bytes : List ℕ) (p : Prefixes) (k : Role → Expected) → kind ≡ Word ObjectPropertyChain
+pub chain_refused : (kind : TokenKind) (bytes : List ℕ) (p : Prefixes) (k : Role → Expected)
+    → kind ≡ Word ObjectPropertyChain
     → first_role_next p k (symbol_of kind bytes) ≡ refuses (not_ql ObjectPropertyChain)
 chain_refused kind bytes p k is = ap (λ t. first_role_next p k (symbol_of t bytes)) is
 
-pub first_plain : (kind : TokenKind) (bytes : List ℕ) (p : Prefixes) (k : Role → Expected) → (kind ≡ Word ObjectPropertyChain → ⊥)
+pub first_plain : (kind : TokenKind) (bytes : List ℕ) (p : Prefixes) (k : Role → Expected)
+    → (kind ≡ Word ObjectPropertyChain → ⊥)
     → first_role_next p k (symbol_of kind bytes) ≡ role_next p k (symbol_of kind bytes)
 first_plain (Word ObjectPropertyChain) bytes p k not = absurd (not refl)
 first_plain (Word w) bytes p k not = refl
@@ -30,16 +31,19 @@ first_plain kind bytes p k not = refl
 
 -- ---- the second role
 
-pub second_inverse : (kind : TokenKind) (bytes : List ℕ) (p : Prefixes) (k : Role → Expected) (e : Expected) → kind ≡ Word ObjectInverseOf
+pub second_inverse : (kind : TokenKind) (bytes : List ℕ) (p : Prefixes) (k : Role → Expected) (e : Expected)
+    → kind ≡ Word ObjectInverseOf
     → second_role_next p k e (symbol_of kind bytes) ≡ role_next p k (symbol_of kind bytes)
 second_inverse kind bytes p k e is =
     ap (λ t. second_role_next p k e (symbol_of t bytes)) is ∙ sym (ap (λ t. role_next p k (symbol_of t bytes)) is)
 
 -- what an IRI is there
 abbrev pub second_by : (Role → Expected) → Expected → Text → Move
-second_by k e text = if bytes_eq owl_top_object_property text then goes e else name_next is_free text (λ n. k (named n))
+second_by k e text = if bytes_eq owl_top_object_property text then goes e else name_next is_free text
+    (λ n. k (named n))
 
-pub second_plain : (kind : TokenKind) (bytes : List ℕ) (p : Prefixes) (k : Role → Expected) (e : Expected) → (kind ≡ Word ObjectInverseOf → ⊥)
+pub second_plain : (kind : TokenKind) (bytes : List ℕ) (p : Prefixes) (k : Role → Expected) (e : Expected)
+    → (kind ≡ Word ObjectInverseOf → ⊥)
     → second_role_next p k e (symbol_of kind bytes) ≡ at_iri p (symbol_of kind bytes) (second_by k e) (refuses syntax)
 second_plain (Word ObjectInverseOf) bytes p k e not = absurd (not refl)
 second_plain (Word w) bytes p k e not = refl
@@ -59,8 +63,10 @@ module _ (p : Prefixes) (s : Symbol) (text : Text) (iri : IsIri p s text) (k : R
 
 -- ---- an individual that is not named
 
-pub unnamed_by : (p : Prefixes) (s : Symbol) (text : Text) → IsIri p s text → (e : Expected) (other : Move) (b : Bool) → is_free text ≡ b
-    → at_iri p s (λ t. if is_free t then goes e else refuses reserved) other ≡ (if b then goes e else refuses reserved)
+pub unnamed_by : (p : Prefixes) (s : Symbol) (text : Text) → IsIri p s text → (e : Expected) (other : Move) (b : Bool)
+    → is_free text ≡ b
+    → at_iri p s (λ t. if is_free t then goes e else refuses reserved) other ≡ (if b then goes e else refuses
+    reserved)
 unnamed_by p s text iri e other b free =
     at_iri-is p s text (λ t. if is_free t then goes e else refuses reserved) other iri
     ∙ ap (λ x. if x then goes e else refuses reserved) free

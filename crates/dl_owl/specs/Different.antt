@@ -10,7 +10,7 @@ use Rattle.dl_owl.specs.Walk.{symbol_at, Here, Goes, Faults}
 abbrev pub HaveSame : List Text → List Text → Type 0
 HaveSame xs ys = (text : Text) → has_name xs text ≡ has_name ys text
 
--- where an individual is expected that is none of those before, it is read, up to another place, and is one of them then
+-- where an individual is expected that is none of those before, it is read, up to another place, and then one of them
 abbrev pub ReadsDifferent : Here → Here → List Text → List Text → Result (Unit {0}) OwlFault → Type 0
 ReadsDifferent from to old new (Ok _) =
     (before : List Text) → HaveSame before old → (text : Text) × HaveSame (text ∷ before) new

@@ -1,7 +1,6 @@
 -- What an item of an ontology adds to its document.
 use Rattle.std.specs.Prelude.{ℕ, [], ◌∷◌, ◌++◌, if◌then◌else◌}
 use Rattle.dl_terms.specs.declared.role.Role.{Role}
-use Rattle.dl_terms.specs.declared.axiom.Axiom.{Axiom}
 use Rattle.dl_terms.specs.declared.axiom.Fact.{Fact}
 use Rattle.dl_terms.specs.declared.axiom.Fact.TheVariants.{Link}
 use Rattle.dl_terms.specs.declared.role.Base.{Base}

@@ -59,11 +59,7 @@ fn named_member(
 }
 
 /// An individual that is in `owl:Thing`, which has no effect.
-fn unnamed_member(
-    at: &mut Cursor,
-    prefixes: &Prefixes,
-    text: &mut String,
-) -> Result<Item, OwlFault>
+fn unnamed_member(at: &mut Cursor, prefixes: &Prefixes, text: &mut String) -> Result<Item, OwlFault>
     ensures { (names : List Text) → Reads (λ k. unnamed_then (close_then (k item.NoEffect)))
         (here at.old prefixes.now names) (here at.new prefixes.now names) result }
 {

@@ -86,7 +86,7 @@ fn operands(
     }
 }
 
-/// The axiom or declaration that stands next, as what it adds to a document. Of a token that begins none it is the fault.
+/// The axiom or declaration that stands next, as what it adds to a document.
 pub(crate) fn axiom(
     alloc: Global,
     at: &mut Cursor,

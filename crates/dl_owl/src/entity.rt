@@ -95,11 +95,7 @@ fn property_entity(
 }
 
 /// What is declared without effect, behind its keyword.
-fn other_entity(
-    at: &mut Cursor,
-    prefixes: &Prefixes,
-    text: &mut String,
-) -> Result<Item, OwlFault>
+fn other_entity(at: &mut Cursor, prefixes: &Prefixes, text: &mut String) -> Result<Item, OwlFault>
     ensures { (names : List Text) → Reads (λ k. open_then (iri_then (close_then (k no_effect))))
         (here at.old prefixes.now names) (here at.new prefixes.now names) result }
 {

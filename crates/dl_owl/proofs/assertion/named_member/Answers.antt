@@ -32,7 +32,8 @@ returns c =
     λ k.
     goes-then (individual_then (λ a. close_then (k (item.Fact (facts.Is c.args.class a))))) (here c.args.at.now
     c.args.prefixes.now c.args.names.now) (close_then (k (item.Fact (facts.Is c.args.class c.in_ok-who.who)))) (here
-    c.individual.new.at c.args.prefixes.now c.individual.new.names) (k (item.Fact (facts.Is c.args.class c.in_ok-who.who)))
+    c.individual.new.at c.args.prefixes.now c.individual.new.names)
+    (k (item.Fact (facts.Is c.args.class c.in_ok-who.who)))
     (here c.close.new.at c.args.prefixes.now c.individual.new.names)
     (c.in_ok-who.ensures (λ a. close_then (k (item.Fact (facts.Is c.args.class a)))))
     (c.in_ok-close.ensures c.args.prefixes.now c.individual.new.names (k (item.Fact (facts.Is c.args.class

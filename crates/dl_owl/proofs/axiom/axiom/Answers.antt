@@ -34,7 +34,8 @@ returns-then-not-is_axiom c =
 
 pub returns-in_err-advance : goal.returns-in_err-advance
 returns-in_err-advance c =
-    exit_follows (λ k. axiom_next k (symbol_at c.args.at.now)) (here c.args.at.now c.args.prefixes.now c.args.names.now)
+    exit_follows (λ k. axiom_next k (symbol_at c.args.at.now)) (here c.args.at.now c.args.prefixes.now
+    c.args.names.now)
     (here c.advance.new.self c.args.prefixes.now c.args.names.now) c.from_residual.result
     c.in_err-advance.field-0.0 c.from_residual.ensures.1
     (λ e k is.
@@ -46,12 +47,14 @@ returns-in_err-advance c =
 
 pub returns-in_err-begin : goal.returns-in_err-begin
 returns-in_err-begin c =
-    exit_follows (λ k. axiom_next k (symbol_at c.args.at.now)) (here c.args.at.now c.args.prefixes.now c.args.names.now)
+    exit_follows (λ k. axiom_next k (symbol_at c.args.at.now)) (here c.args.at.now c.args.prefixes.now
+    c.args.names.now)
     (here c.begin.new.at c.args.prefixes.now c.args.names.now) c.from_residual-in_err-begin.result
     c.in_err-begin.field-0.0 c.from_residual-in_err-begin.ensures.1
     (λ e k is.
     goes-faults e (here c.args.at.now c.args.prefixes.now c.args.names.now)
-    (open_then (annotations_then (operands_then c.in-Some.word k))) (here c.advance.new.self c.args.prefixes.now c.args.names.now) c.in_err-begin.field-0.0
+    (open_then (annotations_then (operands_then c.in-Some.word k))) (here c.advance.new.self c.args.prefixes.now
+    c.args.names.now) c.in_err-begin.field-0.0
     (keyword-goes c.in-Some.word e (open_then (annotations_then (operands_then c.in-Some.word k)))
     c.args.at.now c.args.prefixes.now c.args.names.now c.in-Some.ensures
     (axiom_fits c.in-Some.word e k c.args.at.now c.args.prefixes.now c.in-Some.ensures
@@ -62,11 +65,13 @@ returns-in_err-begin c =
 pub returns : goal.returns
 returns c =
     follows_behind (λ k. axiom_next k (symbol_at c.args.at.now)) (operands_then c.in-Some.word)
-    (here c.args.at.now c.args.prefixes.now c.args.names.now) (here c.begin.new.at c.args.prefixes.now c.args.names.now)
+    (here c.args.at.now c.args.prefixes.now c.args.names.now) (here c.begin.new.at c.args.prefixes.now
+    c.args.names.now)
     (here c.operands.new.at c.args.prefixes.now c.operands.new.names) c.operands.result
     (λ e k is.
     goes-then e (here c.args.at.now c.args.prefixes.now c.args.names.now)
-    (open_then (annotations_then (operands_then c.in-Some.word k))) (here c.advance.new.self c.args.prefixes.now c.args.names.now)
+    (open_then (annotations_then (operands_then c.in-Some.word k))) (here c.advance.new.self c.args.prefixes.now
+    c.args.names.now)
     (operands_then c.in-Some.word k) (here c.begin.new.at c.args.prefixes.now c.args.names.now)
     (keyword-goes c.in-Some.word e (open_then (annotations_then (operands_then c.in-Some.word k)))
     c.args.at.now c.args.prefixes.now c.args.names.now c.in-Some.ensures

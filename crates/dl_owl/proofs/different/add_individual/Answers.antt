@@ -1,6 +1,5 @@
-use Rattle.std.proofs.Common.{true, false, inl, [], ◌∷◌, refl, sym, ap, ◌∙◌, subst}
+use Rattle.std.proofs.Common.{true, false, inl, ◌∷◌, sym, ◌∙◌, subst}
 use Rattle.dl_lex.specs.declared.keyword.Keyword.TheVariants.{DifferentIndividuals}
-use Rattle.dl_names.specs.NameList.{has_name, names_after}
 use Rattle.dl_owl.specs.declared.fault.Construct.TheVariants as construct
 use Rattle.dl_owl.specs.declared.fault.OwlFault.TheVariants as fault
 use Rattle.dl_owl.specs.NamesNext.{IsIri}
@@ -86,10 +85,10 @@ returns c =
     let text = c.as_str-iri.result.now in
     let iri : IsIri p (symbol_at c.args.at.now) text =
     subst (IsIri p (symbol_at c.args.at.now)) (sym c.as_str-iri.ensures.value) c.in_ok-expect_iri.ensures in
-    let new = was_new c.args.before.now text c.in_ok-new.new c.in_ok-new.ensures.is_new c.if-not-new.false in
-    (
+    let new = was_new c.args.before.now text c.in_ok-new.new c.in_ok-new.ensures.is_new c.if-not-new.false in (
       text,
-      subst (HaveSame (text ∷ before)) (sym c.in_ok-new.ensures.added) (same_after before c.args.before.now text same new),
+      subst (HaveSame (text ∷ before)) (sym c.in_ok-new.ensures.added) (same_after before c.args.before.now text same
+          new),
       λ e k is.
           passed c.args.at.now p names text iri e (k (text ∷ before))
           (is

@@ -9,39 +9,57 @@ use Rattle.dl_owl.proofs.list.add_subs.Goals as goal
 
 pub returns-in_err-add_sub : goal.returns-in_err-add_sub
 returns-in_err-add_sub c =
-    exit_by (Appends (subs_close 2 []) (here c.args.at.now c.args.prefixes.now c.args.names.now) (here c.add_sub.new.at c.args.prefixes.now c.add_sub.new.names) c.args.subs.now c.add_sub.new.subs)
+    exit_by (Appends (subs_close 2 []) (here c.args.at.now c.args.prefixes.now c.args.names.now)
+    (here c.add_sub.new.at c.args.prefixes.now c.add_sub.new.names) c.args.subs.now c.add_sub.new.subs)
     c.from_residual.result c.in_err-add_sub.field-0.0 c.from_residual.ensures.1
-    (series_first_faults Basic subs_close one_sub subs_series (here c.args.at.now c.args.prefixes.now c.args.names.now) (here c.add_sub.new.at c.args.prefixes.now c.add_sub.new.names) c.args.subs.now c.add_sub.new.subs
+    (series_first_faults Basic subs_close one_sub subs_series (here c.args.at.now c.args.prefixes.now
+    c.args.names.now) (here c.add_sub.new.at c.args.prefixes.now c.add_sub.new.names) c.args.subs.now
+    c.add_sub.new.subs
     c.in_err-add_sub.field-0.0 c.in_err-add_sub.ensures)
 
 pub returns-in_err-add_sub-2 : goal.returns-in_err-add_sub-2
 returns-in_err-add_sub-2 c =
-    exit_by (Appends (subs_close 2 []) (here c.args.at.now c.args.prefixes.now c.args.names.now) (here c.add_sub-2.new.at c.args.prefixes.now c.add_sub-2.new.names) c.args.subs.now c.add_sub-2.new.subs)
+    exit_by (Appends (subs_close 2 []) (here c.args.at.now c.args.prefixes.now c.args.names.now)
+    (here c.add_sub-2.new.at c.args.prefixes.now c.add_sub-2.new.names) c.args.subs.now c.add_sub-2.new.subs)
     c.from_residual-in_err-add_sub-2.result c.in_err-add_sub-2.field-0.0 c.from_residual-in_err-add_sub-2.ensures.1
-    (series_next_faults Basic subs_close one_sub subs_series (subs_close 2 []) c.args.subs.now c.add_sub.new.subs c.add_sub-2.new.subs (here c.args.at.now c.args.prefixes.now c.args.names.now)
-    (here c.add_sub.new.at c.args.prefixes.now c.add_sub.new.names) (here c.add_sub-2.new.at c.args.prefixes.now c.add_sub-2.new.names) 0 c.in_err-add_sub-2.field-0.0
-    (series_first Basic subs_close one_sub subs_series (here c.args.at.now c.args.prefixes.now c.args.names.now) (here c.add_sub.new.at c.args.prefixes.now c.add_sub.new.names) c.args.subs.now c.add_sub.new.subs c.in_ok-add_sub.ensures)
+    (series_next_faults Basic subs_close one_sub subs_series (subs_close 2 []) c.args.subs.now c.add_sub.new.subs
+    c.add_sub-2.new.subs (here c.args.at.now c.args.prefixes.now c.args.names.now)
+    (here c.add_sub.new.at c.args.prefixes.now c.add_sub.new.names) (here c.add_sub-2.new.at c.args.prefixes.now
+    c.add_sub-2.new.names) 0 c.in_err-add_sub-2.field-0.0
+    (series_first Basic subs_close one_sub subs_series (here c.args.at.now c.args.prefixes.now c.args.names.now)
+    (here c.add_sub.new.at c.args.prefixes.now c.add_sub.new.names) c.args.subs.now c.add_sub.new.subs
+    c.in_ok-add_sub.ensures)
     c.in_err-add_sub-2.ensures)
 
 pub loop-at-init : goal.loop-at-init
 loop-at-init c =
-    series_next Basic subs_close one_sub subs_series (subs_close 2 []) c.args.subs.now c.add_sub.new.subs c.add_sub-2.new.subs (here c.args.at.now c.args.prefixes.now c.args.names.now)
-    (here c.add_sub.new.at c.args.prefixes.now c.add_sub.new.names) (here c.add_sub-2.new.at c.args.prefixes.now c.add_sub-2.new.names) 0
-    (series_first Basic subs_close one_sub subs_series (here c.args.at.now c.args.prefixes.now c.args.names.now) (here c.add_sub.new.at c.args.prefixes.now c.add_sub.new.names) c.args.subs.now c.add_sub.new.subs c.in_ok-add_sub.ensures)
+    series_next Basic subs_close one_sub subs_series (subs_close 2 []) c.args.subs.now c.add_sub.new.subs
+    c.add_sub-2.new.subs (here c.args.at.now c.args.prefixes.now c.args.names.now)
+    (here c.add_sub.new.at c.args.prefixes.now c.add_sub.new.names) (here c.add_sub-2.new.at c.args.prefixes.now
+    c.add_sub-2.new.names) 0
+    (series_first Basic subs_close one_sub subs_series (here c.args.at.now c.args.prefixes.now c.args.names.now)
+    (here c.add_sub.new.at c.args.prefixes.now c.add_sub.new.names) c.args.subs.now c.add_sub.new.subs
+    c.in_ok-add_sub.ensures)
     c.in_ok-add_sub-2.ensures
 
 pub returns-in_err-add_sub-3 : goal.returns-in_err-add_sub-3
 returns-in_err-add_sub-3 c =
-    exit_by (Appends (subs_close 2 []) (here c.args.at.now c.args.prefixes.now c.args.names.now) (here c.add_sub-in-loop-at.new.at c.args.prefixes.now c.add_sub-in-loop-at.new.names) c.args.subs.now c.add_sub-in-loop-at.new.subs)
+    exit_by (Appends (subs_close 2 []) (here c.args.at.now c.args.prefixes.now c.args.names.now)
+    (here c.add_sub-in-loop-at.new.at c.args.prefixes.now c.add_sub-in-loop-at.new.names) c.args.subs.now
+    c.add_sub-in-loop-at.new.subs)
     c.from_residual-in_err-add_sub-3.result c.in_err-add_sub-3.field-0.0 c.from_residual-in_err-add_sub-3.ensures.1
-    (series_again_faults Basic subs_close one_sub subs_series (subs_close 2 []) c.args.subs.now c.loop-at.subs c.add_sub-in-loop-at.new.subs (here c.args.at.now c.args.prefixes.now c.args.names.now)
-    (here c.loop-at.at c.args.prefixes.now c.loop-at.names) (here c.add_sub-in-loop-at.new.at c.args.prefixes.now c.add_sub-in-loop-at.new.names) c.in_err-add_sub-3.field-0.0 c.loop-at.invariant
+    (series_again_faults Basic subs_close one_sub subs_series (subs_close 2 []) c.args.subs.now c.loop-at.subs
+    c.add_sub-in-loop-at.new.subs (here c.args.at.now c.args.prefixes.now c.args.names.now)
+    (here c.loop-at.at c.args.prefixes.now c.loop-at.names) (here c.add_sub-in-loop-at.new.at c.args.prefixes.now
+    c.add_sub-in-loop-at.new.names) c.in_err-add_sub-3.field-0.0 c.loop-at.invariant
     (not_kind c.is_close.result _ c.is_close.ensures c.loop-at-test.true) c.in_err-add_sub-3.ensures)
 
 pub loop-at-preserved : goal.loop-at-preserved
 loop-at-preserved c =
-    series_again Basic subs_close one_sub subs_series (subs_close 2 []) c.args.subs.now c.loop-at.subs c.add_sub-in-loop-at.new.subs (here c.args.at.now c.args.prefixes.now c.args.names.now)
-    (here c.loop-at.at c.args.prefixes.now c.loop-at.names) (here c.add_sub-in-loop-at.new.at c.args.prefixes.now c.add_sub-in-loop-at.new.names) c.loop-at.invariant
+    series_again Basic subs_close one_sub subs_series (subs_close 2 []) c.args.subs.now c.loop-at.subs
+    c.add_sub-in-loop-at.new.subs (here c.args.at.now c.args.prefixes.now c.args.names.now)
+    (here c.loop-at.at c.args.prefixes.now c.loop-at.names) (here c.add_sub-in-loop-at.new.at c.args.prefixes.now
+    c.add_sub-in-loop-at.new.names) c.loop-at.invariant
     (not_kind c.is_close.result _ c.is_close.ensures c.loop-at-test.true) c.in_ok-add_sub-3.ensures
 
 pub loop-at-smaller : goal.loop-at-smaller
@@ -49,7 +67,9 @@ loop-at-smaller c = (c.in_ok-add_sub-3.ensures.2 (λ _. prologue)).ahead
 
 pub returns : goal.returns
 returns c =
-    series_closes Basic subs_close one_sub subs_series (subs_close 2 []) c.args.subs.now c.loop-at.subs (here c.args.at.now c.args.prefixes.now c.args.names.now)
-    (here c.loop-at.at c.args.prefixes.now c.loop-at.names) (here c.close.new.at c.args.prefixes.now c.loop-at.names) c.close.result
+    series_closes Basic subs_close one_sub subs_series (subs_close 2 []) c.args.subs.now c.loop-at.subs
+    (here c.args.at.now c.args.prefixes.now c.args.names.now)
+    (here c.loop-at.at c.args.prefixes.now c.loop-at.names) (here c.close.new.at c.args.prefixes.now c.loop-at.names)
+    c.close.result
     c.loop-at.invariant (c.is_close.ensures.0 c.loop-at-test.false)
     (c.close.ensures c.args.prefixes.now c.loop-at.names)

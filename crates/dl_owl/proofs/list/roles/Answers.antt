@@ -1,10 +1,11 @@
 use Rattle.std.proofs.Common.{[]}
 use Rattle.dl_owl.specs.Expected.{roles_close}
-use Rattle.dl_owl.specs.Walk.{here, Reads}
-use Rattle.dl_owl.proofs.SeriesLemmas.{exit_by, reads_all}
+use Rattle.dl_owl.specs.Walk.{here}
+use Rattle.dl_owl.proofs.SeriesLemmas.{reads_all}
 use Rattle.dl_owl.proofs.list.roles.Goals as goal
 
 pub returns : goal.returns
 returns c =
-    reads_all (roles_close 2 []) (here c.args.at.now c.args.prefixes.now c.args.names.now) (here c.add_roles.new.at c.args.prefixes.now c.add_roles.new.names) c.new-roles.result c.add_roles.new.roles
+    reads_all (roles_close 2 []) (here c.args.at.now c.args.prefixes.now c.args.names.now)
+    (here c.add_roles.new.at c.args.prefixes.now c.add_roles.new.names) c.new-roles.result c.add_roles.new.roles
     c.new-roles.ensures c.in_ok-add_roles.ensures

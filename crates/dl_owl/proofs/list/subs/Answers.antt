@@ -1,10 +1,11 @@
 use Rattle.std.proofs.Common.{[]}
 use Rattle.dl_owl.specs.Expected.{subs_close}
-use Rattle.dl_owl.specs.Walk.{here, Reads}
-use Rattle.dl_owl.proofs.SeriesLemmas.{exit_by, reads_all}
+use Rattle.dl_owl.specs.Walk.{here}
+use Rattle.dl_owl.proofs.SeriesLemmas.{reads_all}
 use Rattle.dl_owl.proofs.list.subs.Goals as goal
 
 pub returns : goal.returns
 returns c =
-    reads_all (subs_close 2 []) (here c.args.at.now c.args.prefixes.now c.args.names.now) (here c.add_subs.new.at c.args.prefixes.now c.add_subs.new.names) c.new-subs.result c.add_subs.new.subs
+    reads_all (subs_close 2 []) (here c.args.at.now c.args.prefixes.now c.args.names.now)
+    (here c.add_subs.new.at c.args.prefixes.now c.add_subs.new.names) c.new-subs.result c.add_subs.new.subs
     c.new-subs.ensures c.in_ok-add_subs.ensures

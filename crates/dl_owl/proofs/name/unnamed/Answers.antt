@@ -14,7 +14,8 @@ use Rattle.dl_owl.proofs.name.unnamed.Goals as goal
 pub returns-in_err-expect_iri : goal.returns-in_err-expect_iri
 returns-in_err-expect_iri c =
     λ names.
-    exit_passes unnamed_then (here c.args.at.now c.args.prefixes.now names) (here c.args.at.now c.args.prefixes.now names)
+    exit_passes unnamed_then (here c.args.at.now c.args.prefixes.now names) (here c.args.at.now c.args.prefixes.now
+    names)
     c.from_residual.result c.in_err-expect_iri.field-0.0 c.from_residual.ensures.1
     (λ k.
     c.in_err-expect_iri.ensures names (unnamed_then k) (λ t. if is_free t then goes k else refuses reserved)

@@ -1,4 +1,4 @@
-use Rattle.std.proofs.Common.{Some, None, refl, sym, ap, ◌∙◌, subst, slice_range}
+use Rattle.std.proofs.Common.{Some, None, sym, ap, ◌∙◌, subst, slice_range}
 use Rattle.dl_terms.specs.Roles.{named}
 use Rattle.dl_owl.specs.declared.fault.OwlFault.TheVariants as fault
 use Rattle.dl_owl.specs.NamesNext.{IsIri}
@@ -14,14 +14,16 @@ use Rattle.dl_owl.proofs.pair.second_role.Goals as goal
 
 pub returns-in_err-over : goal.returns-in_err-over
 returns-in_err-over c =
-    exit_by (Reads (λ k. second_role (λ r. k (Some r)) (k None)) (here c.args.at.now c.args.prefixes.now c.args.names.now)
+    exit_by (Reads (λ k. second_role (λ r. k (Some r)) (k None)) (here c.args.at.now c.args.prefixes.now
+    c.args.names.now)
     (here c.role.new.at c.args.prefixes.now c.role.new.names))
     c.from_residual.result c.in_err-over.field-0.0 c.from_residual.ensures.1
     (λ k.
     faults_alike (second_role (λ r. k (Some r)) (k None)) (role_then (λ r. k (Some r)))
     (here c.args.at.now c.args.prefixes.now c.args.names.now) c.in_err-over.field-0.0
     (second_inverse c.args.at.now.token.kind
-    (slice_range c.args.at.now.bytes c.args.at.now.token.start c.args.at.now.token.end) c.args.prefixes.now (λ r. k (Some r)) (k None)
+    (slice_range c.args.at.now.bytes c.args.at.now.token.start c.args.at.now.token.end) c.args.prefixes.now
+    (λ r. k (Some r)) (k None)
     (c.is_inverse.ensures.0 c.if-is_inverse.true))
     (c.in_err-over.ensures (λ r. k (Some r))))
 
@@ -32,13 +34,15 @@ returns-then-is_inverse c =
     (here c.args.at.now c.args.prefixes.now c.args.names.now) (k (Some c.in_ok-over.over))
     (here c.role.new.at c.args.prefixes.now c.role.new.names)
     (second_inverse c.args.at.now.token.kind
-    (slice_range c.args.at.now.bytes c.args.at.now.token.start c.args.at.now.token.end) c.args.prefixes.now (λ r. k (Some r)) (k None)
+    (slice_range c.args.at.now.bytes c.args.at.now.token.start c.args.at.now.token.end) c.args.prefixes.now
+    (λ r. k (Some r)) (k None)
     (c.is_inverse.ensures.0 c.if-is_inverse.true))
     (c.in_ok-over.ensures (λ r. k (Some r)))
 
 pub returns-in_err-expect_iri : goal.returns-in_err-expect_iri
 returns-in_err-expect_iri c =
-    exit_by (Reads (λ k. second_role (λ r. k (Some r)) (k None)) (here c.args.at.now c.args.prefixes.now c.args.names.now)
+    exit_by (Reads (λ k. second_role (λ r. k (Some r)) (k None)) (here c.args.at.now c.args.prefixes.now
+    c.args.names.now)
     (here c.args.at.now c.args.prefixes.now c.args.names.now))
     c.from_residual-in_err-expect_iri.result c.in_err-expect_iri.field-0.0
     c.from_residual-in_err-expect_iri.ensures.1
@@ -46,7 +50,8 @@ returns-in_err-expect_iri c =
     c.in_err-expect_iri.ensures c.args.names.now (second_role (λ r. k (Some r)) (k None))
     (second_by (λ r. k (Some r)) (k None)) syntax (ap fault.Syntax c.start-start.ensures)
     (second_plain c.args.at.now.token.kind
-    (slice_range c.args.at.now.bytes c.args.at.now.token.start c.args.at.now.token.end) c.args.prefixes.now (λ r. k (Some r)) (k None)
+    (slice_range c.args.at.now.bytes c.args.at.now.token.start c.args.at.now.token.end) c.args.prefixes.now
+    (λ r. k (Some r)) (k None)
     (not_kind c.is_inverse.result _ c.is_inverse.ensures c.if-is_inverse.false)))
 
 pub returns-in_err-advance : goal.returns-in_err-advance
@@ -55,13 +60,15 @@ returns-in_err-advance c =
     let text = c.as_str-iri.result.now in
     let iri : IsIri p (symbol_at c.args.at.now) text =
     subst (IsIri p (symbol_at c.args.at.now)) (sym c.as_str-iri.ensures.value) c.in_ok-expect_iri.ensures in
-    exit_by (Reads (λ k. second_role (λ r. k (Some r)) (k None)) (here c.args.at.now c.args.prefixes.now c.args.names.now)
+    exit_by (Reads (λ k. second_role (λ r. k (Some r)) (k None)) (here c.args.at.now c.args.prefixes.now
+    c.args.names.now)
     (here c.advance.new.self p c.args.names.now))
     c.from_residual-in_err-advance.result c.in_err-advance.field-0.0 c.from_residual-in_err-advance.ensures.1
     (λ k.
     passed_faults c.args.at.now p c.args.names.now text iri (second_role (λ r. k (Some r)) (k None)) (k None)
     (second_plain c.args.at.now.token.kind
-    (slice_range c.args.at.now.bytes c.args.at.now.token.start c.args.at.now.token.end) c.args.prefixes.now (λ r. k (Some r)) (k None)
+    (slice_range c.args.at.now.bytes c.args.at.now.token.start c.args.at.now.token.end) c.args.prefixes.now
+    (λ r. k (Some r)) (k None)
     (not_kind c.is_inverse.result _ c.is_inverse.ensures c.if-is_inverse.false)
     ∙ second_top p (symbol_at c.args.at.now) text iri (λ r. k (Some r)) (k None)
     (sym c.is_top.ensures ∙ c.if-is_top.true))
@@ -76,7 +83,8 @@ returns-then-is_top c =
     subst (IsIri p (symbol_at c.args.at.now)) (sym c.as_str-iri.ensures.value) c.in_ok-expect_iri.ensures in
     passed c.args.at.now p c.args.names.now text iri (second_role (λ r. k (Some r)) (k None)) (k None)
     (second_plain c.args.at.now.token.kind
-    (slice_range c.args.at.now.bytes c.args.at.now.token.start c.args.at.now.token.end) c.args.prefixes.now (λ r. k (Some r)) (k None)
+    (slice_range c.args.at.now.bytes c.args.at.now.token.start c.args.at.now.token.end) c.args.prefixes.now
+    (λ r. k (Some r)) (k None)
     (not_kind c.is_inverse.result _ c.is_inverse.ensures c.if-is_inverse.false)
     ∙ second_top p (symbol_at c.args.at.now) text iri (λ r. k (Some r)) (k None)
     (sym c.is_top.ensures ∙ c.if-is_top.true))
@@ -88,13 +96,15 @@ returns-in_err-place c =
     let text = c.as_str-iri.result.now in
     let iri : IsIri p (symbol_at c.args.at.now) text =
     subst (IsIri p (symbol_at c.args.at.now)) (sym c.as_str-iri.ensures.value) c.in_ok-expect_iri.ensures in
-    exit_by (Reads (λ k. second_role (λ r. k (Some r)) (k None)) (here c.args.at.now c.args.prefixes.now c.args.names.now)
+    exit_by (Reads (λ k. second_role (λ r. k (Some r)) (k None)) (here c.args.at.now c.args.prefixes.now
+    c.args.names.now)
     (here c.take_free.new.at p c.take_free.new.names))
     c.from_residual-in_err-place.result c.in_err-place.field-0.0 c.from_residual-in_err-place.ensures.1
     (λ k.
     c.in_err-place.ensures p iri (second_role (λ r. k (Some r)) (k None)) (λ n. k (Some (named n)))
     (second_plain c.args.at.now.token.kind
-    (slice_range c.args.at.now.bytes c.args.at.now.token.start c.args.at.now.token.end) c.args.prefixes.now (λ r. k (Some r)) (k None)
+    (slice_range c.args.at.now.bytes c.args.at.now.token.start c.args.at.now.token.end) c.args.prefixes.now
+    (λ r. k (Some r)) (k None)
     (not_kind c.is_inverse.result _ c.is_inverse.ensures c.if-is_inverse.false)
     ∙ second_other p (symbol_at c.args.at.now) text iri (λ r. k (Some r)) (k None)
     (sym c.is_top.ensures ∙ c.if-is_top.false)))
@@ -108,7 +118,8 @@ returns c =
     subst (IsIri p (symbol_at c.args.at.now)) (sym c.as_str-iri.ensures.value) c.in_ok-expect_iri.ensures in
     c.in_ok-place.ensures p iri (second_role (λ r. k (Some r)) (k None)) (λ n. k (Some (named n)))
     (second_plain c.args.at.now.token.kind
-    (slice_range c.args.at.now.bytes c.args.at.now.token.start c.args.at.now.token.end) c.args.prefixes.now (λ r. k (Some r)) (k None)
+    (slice_range c.args.at.now.bytes c.args.at.now.token.start c.args.at.now.token.end) c.args.prefixes.now
+    (λ r. k (Some r)) (k None)
     (not_kind c.is_inverse.result _ c.is_inverse.ensures c.if-is_inverse.false)
     ∙ second_other p (symbol_at c.args.at.now) text iri (λ r. k (Some r)) (k None)
     (sym c.is_top.ensures ∙ c.if-is_top.false))

@@ -1,7 +1,7 @@
 use Rattle.std.proofs.Common.{[], ◌<◌, refl, arith}
 use Rattle.dl_lex.specs.declared.keyword.Keyword.TheVariants.{ObjectIntersectionOf}
 use Rattle.dl_terms.specs.declared.axiom.Part.{Part}
-use Rattle.dl_owl.specs.Expected.{prologue, open_then, sup_then, sups_close}
+use Rattle.dl_owl.specs.Expected.{prologue, sup_then, sups_close}
 use Rattle.dl_owl.specs.Walk.{here, left}
 use Rattle.dl_owl.specs.Series.{Appends}
 use Rattle.dl_owl.proofs.AheadLemmas.{moved_ahead, word_some}
@@ -36,7 +36,8 @@ pub add_parts-returns : goal.add_parts-returns
 add_parts-returns t c =
     appends_behind sup_then parts_behind (here c.args.at.now c.args.prefixes.now c.args.names.now)
     (here c.advance.new.self c.args.prefixes.now c.args.names.now)
-    (here c.intersection.new.at c.args.prefixes.now c.intersection.new.names) c.args.parts.now c.intersection.new.parts
+    (here c.intersection.new.at c.args.prefixes.now c.intersection.new.names) c.args.parts.now
+    c.intersection.new.parts
     c.intersection.result
     (λ k.
     keyword-goes ObjectIntersectionOf (sup_then k) (parts_behind k) c.args.at.now c.args.prefixes.now
@@ -54,9 +55,13 @@ intersection-returns-in_err-add_parts t c =
     exit_by (Appends parts_behind (here c.args.at.now c.args.prefixes.now c.args.names.now)
     (here c.add_parts.new.at c.args.prefixes.now c.add_parts.new.names) c.args.parts.now c.add_parts.new.parts)
     c.from_residual-in_err-add_parts.result c.in_err-add_parts.field-0.0 c.from_residual-in_err-add_parts.ensures.1
-    (series_next_faults Part sups_close sup_then sups_series parts_behind c.args.parts.now c.args.parts.now c.add_parts.new.parts (here c.args.at.now c.args.prefixes.now c.args.names.now)
-    (here c.open.new.at c.args.prefixes.now c.args.names.now) (here c.add_parts.new.at c.args.prefixes.now c.add_parts.new.names) 1 c.in_err-add_parts.field-0.0
-    (series_start Part sups_close sup_then sups_series parts_behind 2 c.args.parts.now (here c.args.at.now c.args.prefixes.now c.args.names.now) (here c.open.new.at c.args.prefixes.now c.args.names.now)
+    (series_next_faults Part sups_close sup_then sups_series parts_behind c.args.parts.now c.args.parts.now
+    c.add_parts.new.parts (here c.args.at.now c.args.prefixes.now c.args.names.now)
+    (here c.open.new.at c.args.prefixes.now c.args.names.now) (here c.add_parts.new.at c.args.prefixes.now
+    c.add_parts.new.names) 1 c.in_err-add_parts.field-0.0
+    (series_start Part sups_close sup_then sups_series parts_behind 2 c.args.parts.now
+    (here c.args.at.now c.args.prefixes.now c.args.names.now) (here c.open.new.at c.args.prefixes.now
+    c.args.names.now)
     (λ k. c.in_ok-open.ensures c.args.prefixes.now c.args.names.now (sups_close 2 [] k)))
     c.in_err-add_parts.ensures)
 
@@ -70,23 +75,36 @@ pub intersection-returns-in_err-add_parts-2 : goal.intersection-returns-in_err-a
 intersection-returns-in_err-add_parts-2 t c =
     exit_by (Appends parts_behind (here c.args.at.now c.args.prefixes.now c.args.names.now)
     (here c.add_parts-2.new.at c.args.prefixes.now c.add_parts-2.new.names) c.args.parts.now c.add_parts-2.new.parts)
-    c.from_residual-in_err-add_parts-2.result c.in_err-add_parts-2.field-0.0 c.from_residual-in_err-add_parts-2.ensures.1
-    (series_next_faults Part sups_close sup_then sups_series parts_behind c.args.parts.now c.add_parts.new.parts c.add_parts-2.new.parts (here c.args.at.now c.args.prefixes.now c.args.names.now)
-    (here c.add_parts.new.at c.args.prefixes.now c.add_parts.new.names) (here c.add_parts-2.new.at c.args.prefixes.now c.add_parts-2.new.names) 0 c.in_err-add_parts-2.field-0.0
-    (series_next Part sups_close sup_then sups_series parts_behind c.args.parts.now c.args.parts.now c.add_parts.new.parts (here c.args.at.now c.args.prefixes.now c.args.names.now)
-    (here c.open.new.at c.args.prefixes.now c.args.names.now) (here c.add_parts.new.at c.args.prefixes.now c.add_parts.new.names) 1
-    (series_start Part sups_close sup_then sups_series parts_behind 2 c.args.parts.now (here c.args.at.now c.args.prefixes.now c.args.names.now) (here c.open.new.at c.args.prefixes.now c.args.names.now)
+    c.from_residual-in_err-add_parts-2.result c.in_err-add_parts-2.field-0.0
+    c.from_residual-in_err-add_parts-2.ensures.1
+    (series_next_faults Part sups_close sup_then sups_series parts_behind c.args.parts.now c.add_parts.new.parts
+    c.add_parts-2.new.parts (here c.args.at.now c.args.prefixes.now c.args.names.now)
+    (here c.add_parts.new.at c.args.prefixes.now c.add_parts.new.names) (here c.add_parts-2.new.at c.args.prefixes.now
+    c.add_parts-2.new.names) 0 c.in_err-add_parts-2.field-0.0
+    (series_next Part sups_close sup_then sups_series parts_behind c.args.parts.now c.args.parts.now
+    c.add_parts.new.parts (here c.args.at.now c.args.prefixes.now c.args.names.now)
+    (here c.open.new.at c.args.prefixes.now c.args.names.now) (here c.add_parts.new.at c.args.prefixes.now
+    c.add_parts.new.names) 1
+    (series_start Part sups_close sup_then sups_series parts_behind 2 c.args.parts.now
+    (here c.args.at.now c.args.prefixes.now c.args.names.now) (here c.open.new.at c.args.prefixes.now
+    c.args.names.now)
     (λ k. c.in_ok-open.ensures c.args.prefixes.now c.args.names.now (sups_close 2 [] k)))
     c.in_ok-add_parts.ensures)
     c.in_err-add_parts-2.ensures)
 
 pub intersection-loop-at-init : goal.intersection-loop-at-init
 intersection-loop-at-init t c =
-    series_next Part sups_close sup_then sups_series parts_behind c.args.parts.now c.add_parts.new.parts c.add_parts-2.new.parts (here c.args.at.now c.args.prefixes.now c.args.names.now)
-    (here c.add_parts.new.at c.args.prefixes.now c.add_parts.new.names) (here c.add_parts-2.new.at c.args.prefixes.now c.add_parts-2.new.names) 0
-    (series_next Part sups_close sup_then sups_series parts_behind c.args.parts.now c.args.parts.now c.add_parts.new.parts (here c.args.at.now c.args.prefixes.now c.args.names.now)
-    (here c.open.new.at c.args.prefixes.now c.args.names.now) (here c.add_parts.new.at c.args.prefixes.now c.add_parts.new.names) 1
-    (series_start Part sups_close sup_then sups_series parts_behind 2 c.args.parts.now (here c.args.at.now c.args.prefixes.now c.args.names.now) (here c.open.new.at c.args.prefixes.now c.args.names.now)
+    series_next Part sups_close sup_then sups_series parts_behind c.args.parts.now c.add_parts.new.parts
+    c.add_parts-2.new.parts (here c.args.at.now c.args.prefixes.now c.args.names.now)
+    (here c.add_parts.new.at c.args.prefixes.now c.add_parts.new.names) (here c.add_parts-2.new.at c.args.prefixes.now
+    c.add_parts-2.new.names) 0
+    (series_next Part sups_close sup_then sups_series parts_behind c.args.parts.now c.args.parts.now
+    c.add_parts.new.parts (here c.args.at.now c.args.prefixes.now c.args.names.now)
+    (here c.open.new.at c.args.prefixes.now c.args.names.now) (here c.add_parts.new.at c.args.prefixes.now
+    c.add_parts.new.names) 1
+    (series_start Part sups_close sup_then sups_series parts_behind 2 c.args.parts.now
+    (here c.args.at.now c.args.prefixes.now c.args.names.now) (here c.open.new.at c.args.prefixes.now
+    c.args.names.now)
     (λ k. c.in_ok-open.ensures c.args.prefixes.now c.args.names.now (sups_close 2 [] k)))
     c.in_ok-add_parts.ensures)
     c.in_ok-add_parts-2.ensures
@@ -101,22 +119,30 @@ intersection-loop-at-smaller t c = (c.in_ok-add_parts-3.ensures.2 (λ _. prologu
 
 pub intersection-loop-at-preserved : goal.intersection-loop-at-preserved
 intersection-loop-at-preserved t c =
-    series_again Part sups_close sup_then sups_series parts_behind c.args.parts.now c.loop-at.parts c.add_parts-in-loop-at.new.parts (here c.args.at.now c.args.prefixes.now c.args.names.now)
-    (here c.loop-at.at c.args.prefixes.now c.loop-at.names) (here c.add_parts-in-loop-at.new.at c.args.prefixes.now c.add_parts-in-loop-at.new.names) c.loop-at.invariant
+    series_again Part sups_close sup_then sups_series parts_behind c.args.parts.now c.loop-at.parts
+    c.add_parts-in-loop-at.new.parts (here c.args.at.now c.args.prefixes.now c.args.names.now)
+    (here c.loop-at.at c.args.prefixes.now c.loop-at.names) (here c.add_parts-in-loop-at.new.at c.args.prefixes.now
+    c.add_parts-in-loop-at.new.names) c.loop-at.invariant
     (not_kind c.is_close.result _ c.is_close.ensures c.loop-at-test.true) c.in_ok-add_parts-3.ensures
 
 pub intersection-returns-in_err-add_parts-3 : goal.intersection-returns-in_err-add_parts-3
 intersection-returns-in_err-add_parts-3 t c =
     exit_by (Appends parts_behind (here c.args.at.now c.args.prefixes.now c.args.names.now)
-    (here c.add_parts-in-loop-at.new.at c.args.prefixes.now c.add_parts-in-loop-at.new.names) c.args.parts.now c.add_parts-in-loop-at.new.parts)
-    c.from_residual-in_err-add_parts-3.result c.in_err-add_parts-3.field-0.0 c.from_residual-in_err-add_parts-3.ensures.1
-    (series_again_faults Part sups_close sup_then sups_series parts_behind c.args.parts.now c.loop-at.parts c.add_parts-in-loop-at.new.parts (here c.args.at.now c.args.prefixes.now c.args.names.now)
-    (here c.loop-at.at c.args.prefixes.now c.loop-at.names) (here c.add_parts-in-loop-at.new.at c.args.prefixes.now c.add_parts-in-loop-at.new.names) c.in_err-add_parts-3.field-0.0 c.loop-at.invariant
+    (here c.add_parts-in-loop-at.new.at c.args.prefixes.now c.add_parts-in-loop-at.new.names) c.args.parts.now
+    c.add_parts-in-loop-at.new.parts)
+    c.from_residual-in_err-add_parts-3.result c.in_err-add_parts-3.field-0.0
+    c.from_residual-in_err-add_parts-3.ensures.1
+    (series_again_faults Part sups_close sup_then sups_series parts_behind c.args.parts.now c.loop-at.parts
+    c.add_parts-in-loop-at.new.parts (here c.args.at.now c.args.prefixes.now c.args.names.now)
+    (here c.loop-at.at c.args.prefixes.now c.loop-at.names) (here c.add_parts-in-loop-at.new.at c.args.prefixes.now
+    c.add_parts-in-loop-at.new.names) c.in_err-add_parts-3.field-0.0 c.loop-at.invariant
     (not_kind c.is_close.result _ c.is_close.ensures c.loop-at-test.true) c.in_err-add_parts-3.ensures)
 
 pub intersection-returns : goal.intersection-returns
 intersection-returns t c =
-    series_closes Part sups_close sup_then sups_series parts_behind c.args.parts.now c.loop-at.parts (here c.args.at.now c.args.prefixes.now c.args.names.now)
-    (here c.loop-at.at c.args.prefixes.now c.loop-at.names) (here c.close.new.at c.args.prefixes.now c.loop-at.names) c.close.result
+    series_closes Part sups_close sup_then sups_series parts_behind c.args.parts.now c.loop-at.parts
+    (here c.args.at.now c.args.prefixes.now c.args.names.now)
+    (here c.loop-at.at c.args.prefixes.now c.loop-at.names) (here c.close.new.at c.args.prefixes.now c.loop-at.names)
+    c.close.result
     c.loop-at.invariant (c.is_close.ensures.0 c.loop-at-test.false)
     (c.close.ensures c.args.prefixes.now c.loop-at.names)

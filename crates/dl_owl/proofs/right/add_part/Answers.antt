@@ -1,4 +1,4 @@
-use Rattle.std.proofs.Common.{[], ◌∷◌, inl, refl}
+use Rattle.std.proofs.Common.{[], ◌∷◌}
 use Rattle.dl_owl.specs.Expected.{sup_then}
 use Rattle.dl_owl.specs.Walk.{here}
 use Rattle.dl_owl.specs.Series.{Appends}

@@ -5,5 +5,6 @@ use Rattle.dl_owl.proofs.right.sup.Goals as goal
 
 pub returns : goal.returns
 returns c =
-    reads_all sup_then (here c.args.at.now c.args.prefixes.now c.args.names.now) (here c.add_parts.new.at c.args.prefixes.now c.add_parts.new.names) c.new-parts.result
+    reads_all sup_then (here c.args.at.now c.args.prefixes.now c.args.names.now)
+    (here c.add_parts.new.at c.args.prefixes.now c.add_parts.new.names) c.new-parts.result
     c.add_parts.new.parts c.new-parts.ensures c.in_ok-add_parts.ensures
