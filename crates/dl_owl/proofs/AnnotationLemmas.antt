@@ -25,7 +25,8 @@ module _ (e next : Expected) (s : Spot) (p : Prefixes) (names : List name_list.T
   node-goes new m =
       advance-goes e next s p names (ap (move_of p e) node_is ∙ fits) (ap (λ t. is_too_deep t s.depth) node_is)
       (λ end. let apart : Node ≡ End = sym is ∙ end in cc) new new m
-      (ap (λ t. let u : Spot = record { bytes = new.bytes; token = new.token; depth = depth_after t new.depth } in u) (sym node_is))
+      (ap (λ t. let u : Spot = record { bytes = new.bytes; token = new.token; depth = depth_after t new.depth } in u)
+          (sym node_is))
 
   pub node-faults : (fault : OwlFault) → NoneNext s fault → Faults e (here s p names) fault
   node-faults fault none =
@@ -90,7 +91,8 @@ caret_says = record { says = λ text. refl; flat = λ d. refl; level = λ d. ref
 
 -- ---- a token that is none of those
 
-pub value_plain : (kind : TokenKind) (bytes : List ℕ) (p : Prefixes) (k : Expected) → (kind ≡ Node → ⊥) → (kind ≡ token.Text → ⊥)
+pub value_plain : (kind : TokenKind) (bytes : List ℕ) (p : Prefixes) (k : Expected) → (kind ≡ Node → ⊥)
+    → (kind ≡ token.Text → ⊥)
     → move_of p (value_then k) (symbol_of kind bytes) ≡ move_of p (iri_then (close_then k)) (symbol_of kind bytes)
 value_plain Node bytes p k not nor = absurd (not refl)
 value_plain token.Text bytes p k not nor = absurd (nor refl)
@@ -101,7 +103,8 @@ pub literal_closed : (kind : TokenKind) (bytes : List ℕ) (p : Prefixes) (k : E
 literal_closed Close bytes p k is = refl
 literal_closed kind bytes p k is = absurd (cc)
 
-pub literal_refused : (kind : TokenKind) (bytes : List ℕ) (p : Prefixes) (k : Expected) → (kind ≡ Close → ⊥) → (kind ≡ Lang → ⊥)
+pub literal_refused : (kind : TokenKind) (bytes : List ℕ) (p : Prefixes) (k : Expected) → (kind ≡ Close → ⊥)
+    → (kind ≡ Lang → ⊥)
     → (kind ≡ Caret → ⊥) → move_of p (value_end k) (symbol_of kind bytes) ≡ refuses syntax
 literal_refused Close bytes p k close tag marks = absurd (close refl)
 literal_refused Lang bytes p k close tag marks = absurd (tag refl)

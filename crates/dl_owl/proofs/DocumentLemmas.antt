@@ -88,20 +88,23 @@ module _ (kind : TokenKind) (plain : Plain kind) (e : Expected) (s : Spot) (p : 
     pub plain-goes : (new : Spot) → Moved s new → Goes e (here s p names) next (here new p names)
     plain-goes new m =
         advance-goes e next s p names fits (flat s.depth) some new new m
-        (ap (λ d. let u : Spot = record { bytes = new.bytes; token = new.token; depth = d } in u) (sym (level new.depth)))
+        (ap (λ d. let u : Spot = record { bytes = new.bytes; token = new.token; depth = d } in u) (sym (level
+            new.depth)))
 
     pub plain-faults : (fault : OwlFault) → NoneNext s fault → Faults e (here s p names) fault
     plain-faults fault none = advance-faults e next s p names fits (flat s.depth) some fault none
 
   -- a prefix that is declared
-  module _ (name iri : name_list.Text) (next : Expected) (fits : move_of p e (symbol_at s) ≡ declares name iri next) where
+  module _ (name iri : name_list.Text) (next : Expected) (fits : move_of p e (symbol_at s) ≡ declares name iri next)
+      where
     declared : (rest : List Placed)
         → outcome e (met_of (here s p names)) (placed s.bytes s.token ∷ rest)
         ≡ outcome next (record { prefixes = p ++ (name, iri) ∷ []; names = names; depth = s.depth }) rest
     declared rest =
         ap (outcome_of (met_of (here s p names)) (placed s.bytes s.token) (λ f later. outcome f later rest)) fits
         ∙ ap (λ b. cond b (fails too_deep s.token.start)
-        (outcome next (record { prefixes = p ++ (name, iri) ∷ []; names = names; depth = depth_after (symbol_at s) s.depth })
+        (outcome next (record { prefixes = p ++ (name, iri) ∷ []; names = names; depth = depth_after (symbol_at s)
+            s.depth })
         rest)) (flat s.depth)
         ∙ ap (λ d. outcome next (record { prefixes = p ++ (name, iri) ∷ []; names = names; depth = d }) rest)
         (level s.depth)

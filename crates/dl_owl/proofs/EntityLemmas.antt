@@ -14,7 +14,8 @@ use Rattle.dl_owl.specs.Walk.{Spot, symbol_at, here, Goes, Faults, Moved, NoneNe
 use Rattle.dl_owl.proofs.ReaderLemmas.{keyword-goes, keyword-faults}
 
 -- what fits is a keyword
-a_word : (kind : TokenKind) (bytes : List ℕ) (k : Item → Expected) (next : Expected) → entity_next k (symbol_of kind bytes) ≡ goes next
+a_word : (kind : TokenKind) (bytes : List ℕ) (k : Item → Expected) (next : Expected)
+    → entity_next k (symbol_of kind bytes) ≡ goes next
     → (w : Keyword) × (kind ≡ Word w)
 a_word (Word w) bytes k next is = (w, refl)
 a_word kind bytes k next is = absurd (cc)

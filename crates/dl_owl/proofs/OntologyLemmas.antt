@@ -1,7 +1,6 @@
 -- What a reader of ontology documents looks at, and where the text ends.
 use Rattle.std.proofs.Common.{◌≡◌, ℕ, true, Result, Ok, Err, IsErrAnd, List, [], ◌∷◌, refl, sym, ap, ◌∙◌, subst, slice_range}
 use Rattle.std.proofs.lemmas.Result.{err_from_is_err_and}
-use Rattle.dl_lex.specs.declared.keyword.Keyword.{Keyword}
 use Rattle.dl_lex.specs.declared.keyword.Keyword.TheVariants.{Annotation, Import}
 use Rattle.dl_lex.specs.declared.token.TokenKind.{TokenKind}
 use Rattle.dl_lex.specs.declared.token.TokenKind.TheVariants.{Close, Word, End}
@@ -11,7 +10,7 @@ use Rattle.dl_owl.specs.declared.fault.OwlFault.{OwlFault}
 use Rattle.dl_owl.specs.Symbols.{placed, symbol_of}
 use Rattle.dl_owl.specs.Prefixes.{Prefixes}
 use Rattle.dl_owl.specs.Causes.{syntax}
-use Rattle.dl_owl.specs.Documents.{Leads, Finishes, GivesBy, Ends}
+use Rattle.dl_owl.specs.Documents.{Finishes, GivesBy, Ends}
 use Rattle.dl_owl.specs.Expected.{Expected, items, finish, close_then, refuses}
 use Rattle.dl_owl.specs.Items.{empty_document, with_item}
 use Rattle.dl_owl.specs.Refused.{keyword_left_out}

@@ -1,5 +1,5 @@
 -- The places that a text of the grammar names are those of names after it, and the names only grow.
-use Rattle.std.proofs.Common.{◌≡◌, ℕ, ◌+◌, ◌<◌, ◌≤◌, Bool, true, false, List, [], ◌∷◌, ◌++◌, length, All, refl, sym, ap, ◌∙◌, subst, arith, if◌then◌else◌}
+use Rattle.std.proofs.Common.{◌≡◌, ℕ, ◌<◌, ◌≤◌, Bool, true, false, List, [], ◌∷◌, ◌++◌, length, All, sym, ap, ◌∙◌, subst, arith, if◌then◌else◌}
 use Rattle.std.specs.List.{flat_map}
 use Rattle.std.proofs.lemmas.Grind.{flat_map-append}
 use Rattle.std.proofs.lemmas.List.Elements.{All-nil, All-cons, All-head, All-tail, All-append, All-weaker}
@@ -9,8 +9,6 @@ use Rattle.dl_names.proofs.NameListLemmas.{Extends-same, Extends-trans, length-E
 use Rattle.dl_terms.specs.declared.role.Role.{Role}
 use Rattle.dl_terms.specs.declared.role.Basic.{Basic}
 use Rattle.dl_terms.specs.declared.axiom.Part.{Part}
-use Rattle.dl_terms.specs.declared.axiom.Axiom.{Axiom}
-use Rattle.dl_terms.specs.declared.axiom.Fact.{Fact}
 use Rattle.dl_terms.specs.declared.axiom.Fact.TheVariants as facts
 use Rattle.dl_terms.specs.Occurring.{role_names, basic_names, part_names, axiom_names, fact_names}
 use Rattle.dl_owl.specs.declared.document.Document.{Document}
@@ -44,10 +42,12 @@ below_later one after places grows below =
 pub nothing : (names : List Text) → Placing names names []
 nothing names = record { grows = Extends-same names; below = All-nil (λ place. place < length names) }
 
-pub joined : (names one after : List Text) (xs ys : List ℕ) → Placing names one xs → Placing one after ys → Placing names after (xs ++ ys)
+pub joined : (names one after : List Text) (xs ys : List ℕ) → Placing names one xs → Placing one after ys
+    → Placing names after (xs ++ ys)
 joined names one after xs ys first second = record {
   grows = Extends-trans names one after first.grows second.grows;
-  below = All-append (λ place. place < length after) xs ys (below_later one after xs second.grows first.below) second.below;
+  below = All-append (λ place. place < length after) xs ys (below_later one after xs second.grows first.below)
+      second.below;
 }
 
 -- what one item names is what the list of it does
@@ -57,7 +57,8 @@ one_of names after places h = joined names after after places [] h (nothing afte
 -- two places the other way round
 swapped : (P : ℕ → Type 0) (a b : ℕ) → All P (a ∷ b ∷ []) → All P (b ∷ a ∷ [])
 swapped P a b all =
-    All-cons P b (a ∷ []) (All-head P b [] (All-tail P a (b ∷ []) all)) (All-cons P a [] (All-head P a (b ∷ []) all) (All-nil P))
+    All-cons P b (a ∷ []) (All-head P b [] (All-tail P a (b ∷ []) all)) (All-cons P a [] (All-head P a (b ∷ []) all)
+        (All-nil P))
 
 -- the places that an item names
 abbrev pub item_names : Item → List ℕ
@@ -88,7 +89,8 @@ module _ (p : Prefixes) where
   property_placed : (names : List Text) (ss : List Symbol) (r : Role) (rest : List Symbol) (after : List Text)
       → RoleThen p names ss r rest after → Placing names after (property_of r ∷ [])
   property_placed names ss r rest after (expressions.RoleThen.plain {s = s} {n = n} h) = name_placed _ names s n after h
-  property_placed names ss r rest after (expressions.RoleThen.inverse {s = s} {n = n} h) = name_placed _ names s n after h
+  property_placed names ss r rest after (expressions.RoleThen.inverse {s = s} {n = n} h) = name_placed _ names s n
+      after h
 
   sub_placed : (names : List Text) (ss : List Symbol) (b : Basic) (rest : List Symbol) (after : List Text)
       → SubThen p names ss b rest after → Placing names after (basic_names b)
@@ -111,13 +113,15 @@ module _ (p : Prefixes) where
     sup_placed names ss ps rest after (expressions.SupThen.complement {inner = inner} {b = b} sub) =
         one_of names after (basic_names b) (sub_placed names inner b _ after sub)
     sup_placed names ss ps rest after
-        (expressions.SupThen.intersection {one = one} {two = two} {first = first} {second = second} {others = others} {ps = xs}
+        (expressions.SupThen.intersection {one = one} {two = two} {first = first} {second = second} {others = others}
+            {ps = xs}
         {qs = ys} {rs = zs} h g f) =
         let x = sup_placed names first xs second one h in
         let y = sup_placed one second ys others two g in
         let z = sups_placed two others zs _ after f in
         subst (Placing names after)
-        (sym (flat_map-append part_names xs (ys ++ zs) ∙ ap (λ l. flat_map part_names xs ++ l) (flat_map-append part_names ys zs)))
+        (sym (flat_map-append part_names xs (ys ++ zs) ∙ ap (λ l. flat_map part_names xs ++ l) (flat_map-append
+            part_names ys zs)))
         (joined names one after (flat_map part_names xs) (flat_map part_names ys ++ flat_map part_names zs) x
         (joined one two after (flat_map part_names ys) (flat_map part_names zs) y z))
 
@@ -154,7 +158,8 @@ module _ (p : Prefixes) where
   entity_placed names ss i rest after (axioms.EntityThen.property {s = s} {n = n} h) = name_placed _ names s n after h
   entity_placed names ss i rest after (axioms.EntityThen.other is iri) = nothing names
 
-  operands_placed : (k : Keyword) (names : List Text) (ss : List Symbol) (i : Item) (rest : List Symbol) (after : List Text)
+  operands_placed : (k : Keyword) (names : List Text) (ss : List Symbol) (i : Item) (rest : List Symbol) (after : List
+      Text)
       → OperandsThen p k names ss i rest after → Placing names after (item_names i)
   operands_placed k names ss i rest after
       (axioms.OperandsThen.sub_class {one = one} {first = first} {second = second} {b = b} {ps = ps} h g) =
@@ -186,24 +191,30 @@ module _ (p : Prefixes) where
       (axioms.OperandsThen.range {one = one} {first = first} {second = second} {r = r} {ps = ps} h g) =
       joined names one after (role_names r) (flat_map part_names ps) (role_placed names first r second one h)
       (sup_placed one second ps rest after g)
-  operands_placed k names ss i rest after (axioms.OperandsThen.symmetric {r = r} h) = role_placed names ss r rest after h
-  operands_placed k names ss i rest after (axioms.OperandsThen.asymmetric {r = r} h) = role_placed names ss r rest after h
-  operands_placed k names ss i rest after (axioms.OperandsThen.irreflexive {r = r} h) = role_placed names ss r rest after h
+  operands_placed k names ss i rest after (axioms.OperandsThen.symmetric {r = r} h) = role_placed names ss r rest
+      after h
+  operands_placed k names ss i rest after (axioms.OperandsThen.asymmetric {r = r} h) = role_placed names ss r rest
+      after h
+  operands_placed k names ss i rest after (axioms.OperandsThen.irreflexive {r = r} h) = role_placed names ss r rest
+      after h
   operands_placed k names ss i rest after (axioms.OperandsThen.is_in {one = one} {s = s} {t = t} {c = c} {a = a} h g) =
       joined names one after (c ∷ []) (a ∷ []) (name_placed _ names s c one h) (name_placed _ one t a after g)
   operands_placed k names ss i rest after (axioms.OperandsThen.in_thing is iri free) = nothing names
   operands_placed k names ss i rest after
-      (axioms.OperandsThen.joined {one = one} {two = two} {first = first} {r = r} {s = s} {t = t} {a = a} {b = b} h g f) =
+      (axioms.OperandsThen.joined {one = one} {two = two} {first = first} {r = r} {s = s} {t = t} {a = a} {b = b} h g
+          f) =
       by r.inverse
     where
       all : Placing names after (property_of r ∷ a ∷ b ∷ [])
       all =
           joined names two after (property_of r ∷ a ∷ []) (b ∷ [])
-          (joined names one two (property_of r ∷ []) (a ∷ []) (property_placed names first r _ one h) (name_placed _ one s a two g))
+          (joined names one two (property_of r ∷ []) (a ∷ []) (property_placed names first r _ one h) (name_placed _
+              one s a two g))
           (name_placed _ two t b after f)
 
       by : (turned : Bool)
-          → Placing names after (fact_names (if turned then facts.Link (property_of r) b a else facts.Link (property_of r) a b))
+          → Placing names after (fact_names (if turned then facts.Link (property_of r) b a else facts.Link
+              (property_of r) a b))
       by false = all
       by true = record {
         grows = all.grows;
@@ -240,7 +251,8 @@ empty_below count = record {
   roles = All-nil (λ place. place < count);
 }
 
-all_later : (count more : ℕ) (places : List ℕ) → count ≤ more → All (λ place. place < count) places → All (λ place. place < more) places
+all_later : (count more : ℕ) (places : List ℕ) → count ≤ more → All (λ place. place < count) places
+    → All (λ place. place < more) places
 all_later count more places le below =
     All-weaker (λ place. place < count) (λ place. place < more) (λ place h. omega arith) places below
 
@@ -248,7 +260,8 @@ document_later : (count more : ℕ) (d : Document) → count ≤ more → Docume
 document_later count more d le h = record {
   axioms =
       All-weaker (λ stated. All (λ place. place < count) (axiom_names stated))
-      (λ stated. All (λ place. place < more) (axiom_names stated)) (λ stated g. all_later count more (axiom_names stated) le g)
+      (λ stated. All (λ place. place < more) (axiom_names stated)) (λ stated g. all_later count more (axiom_names
+          stated) le g)
       d.axioms h.axioms;
   facts =
       All-weaker (λ fact. All (λ place. place < count) (fact_names fact))
@@ -262,7 +275,8 @@ document_later count more d le h = record {
 one_more : {A : Type 0} (P : A → Type 0) (xs : List A) (x : A) → All P xs → P x → All P (xs ++ x ∷ [])
 one_more P xs x all h = All-append P xs (x ∷ []) all (All-cons P x [] h (All-nil P))
 
-document_item : (count : ℕ) (d : Document) (i : Item) → DocumentBelow count d → All (λ place. place < count) (item_names i)
+document_item : (count : ℕ) (d : Document) (i : Item) → DocumentBelow count d
+    → All (λ place. place < count) (item_names i)
     → DocumentBelow count (with_item d i)
 document_item count d (items.Axiom a) h g = record {
   axioms = one_more (λ stated. All (λ place. place < count) (axiom_names stated)) d.axioms a h.axioms g;
@@ -301,9 +315,12 @@ item_added names after d i h g =
     document_item (length after) d i
     (document_later (length names) (length after) d (length-Extends names after g.grows) h) g.below
 
-axioms_placed : (p : Prefixes) (d : Document) (names : List Text) (ss : List Symbol) (whole : Document) (rest : List Symbol)
-    (after : List Text) → AxiomsThen p d names ss whole rest after → DocumentBelow (length names) d → Places names whole after
-axioms_placed p d names ss whole rest after ontologies.AxiomsThen.none h = record { grows = Extends-same names; below = h }
+axioms_placed : (p : Prefixes) (d : Document) (names : List Text) (ss : List Symbol) (whole : Document) (rest : List
+    Symbol)
+    (after : List Text) → AxiomsThen p d names ss whole rest after → DocumentBelow (length names) d
+        → Places names whole after
+axioms_placed p d names ss whole rest after ontologies.AxiomsThen.none h = record { grows = Extends-same names; below
+    = h }
 axioms_placed p d names ss whole rest after
     (ontologies.AxiomsThen.more {one = one} {first = first} {others = others} {item = item} g f) h =
     let step = axiom_placed p names first item others one g in

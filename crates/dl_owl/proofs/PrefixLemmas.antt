@@ -16,8 +16,10 @@ declared-shown [] name = refl
 declared-shown (e ∷ entries) name = by (bytes_eq name (string_bytes e.0)) refl (declared-shown entries name)
   where
     by : (b : Bool) → bytes_eq name (string_bytes e.0) ≡ b
-        → declared_iri (shown entries) name ≡ option_map string_bytes (lookup (λ k. bytes_eq name (string_bytes k)) entries)
-        → declared_iri (shown (e ∷ entries)) name ≡ option_map string_bytes (lookup (λ k. bytes_eq name (string_bytes k)) (e ∷ entries))
+        → declared_iri (shown entries) name ≡ option_map string_bytes (lookup (λ k. bytes_eq name (string_bytes k))
+            entries)
+        → declared_iri (shown (e ∷ entries)) name ≡ option_map string_bytes (lookup (λ k. bytes_eq name (string_bytes
+            k)) (e ∷ entries))
     by true is hyp = rw is refl
     by false is hyp = rw is hyp
 
@@ -32,7 +34,8 @@ shown-insert (e ∷ entries) key value none =
     by : (b : Bool) → bytes_eq (string_bytes key) (string_bytes e.0) ≡ b
         → declared_iri (shown (e ∷ entries)) (string_bytes key) ≡ None
         → (declared_iri (shown entries) (string_bytes key) ≡ None
-        → shown (insert_entry string_eq entries key value) ≡ shown entries ++ (string_bytes key, string_bytes value) ∷ [])
+        → shown (insert_entry string_eq entries key value) ≡ shown entries ++ (string_bytes key, string_bytes value) ∷
+            [])
         → shown (insert_entry string_eq (e ∷ entries) key value)
         ≡ shown (e ∷ entries) ++ (string_bytes key, string_bytes value) ∷ []
     by true is none hyp =
@@ -40,6 +43,7 @@ shown-insert (e ∷ entries) key value none =
         let apart : Some (string_bytes e.1) ≡ None = sym some ∙ none in
         absurd (cc)
     by false is none hyp =
-        let rest : declared_iri (shown (e ∷ entries)) (string_bytes key) ≡ declared_iri (shown entries) (string_bytes key) =
+        let rest : declared_iri (shown (e ∷ entries)) (string_bytes key) ≡ declared_iri (shown entries) (string_bytes
+            key) =
         rw is refl in
         rw is (ap (λ l. (string_bytes e.0, string_bytes e.1) ∷ l) (hyp (sym rest ∙ none)))

@@ -1,5 +1,5 @@
 -- From the first token of the bytes to all that is read.
-use Rattle.std.proofs.Common.{◌≡◌, ◌≢◌, ◌<◌, ℕ, true, false, All, Result, Ok, Err, IfOk, IfErr, OnOk, List, [], ◌∷◌, length, inl, inr, refl, sym, ap, ◌∙◌, subst}
+use Rattle.std.proofs.Common.{◌≡◌, ◌≢◌, ◌<◌, ℕ, true, false, All, Result, Ok, Err, IfOk, IfErr, OnOk, List, [], ◌∷◌, length, inl, inr, sym, ap, ◌∙◌, subst}
 use Rattle.dl_names.specs.NameList.{Text, Extends}
 use Rattle.dl_terms.specs.Occurring.{axiom_names, fact_names}
 use Rattle.dl_owl.specs.declared.document.Document.{Document}
@@ -11,8 +11,8 @@ use Rattle.dl_owl.specs.Prefixes.{predefined}
 use Rattle.dl_owl.specs.Causes.{syntax}
 use Rattle.dl_owl.specs.Documents.{GivesBy, Ends}
 use Rattle.dl_owl.specs.Expected.{Expected}
-use Rattle.dl_owl.specs.Reading.{gives, fails, outcome, outcome_of, start, ReadsValue, IsFault}
-use Rattle.dl_owl.specs.Walk.{Spot, Here, here, met_of, FromToken, Faults, Begins, NoneFirst}
+use Rattle.dl_owl.specs.Reading.{gives, outcome, outcome_of, start, ReadsValue, IsFault}
+use Rattle.dl_owl.specs.Walk.{Spot, here, met_of, FromToken, Faults, Begins, NoneFirst}
 use Rattle.dl_owl.proofs.PlaceLemmas.{Places}
 use Rattle.dl_owl.proofs.WalkLemmas.{goes_tokens, no_token_refused}
 
@@ -36,7 +36,8 @@ module _ (bytes : List ℕ) (e : Expected) (names : List Text) where
     from_is : met_of (here s predefined names) ≡ start names
     from_is = λ i. record { prefixes = predefined; names = names; depth = begins.flat i }
 
-    pub value_given : (d : Document) (after : List Text) → GivesBy e (here s predefined names) after d → ReadsValue bytes e names d after
+    pub value_given : (d : Document) (after : List Text) → GivesBy e (here s predefined names) after d
+        → ReadsValue bytes e names d after
     value_given d after h = record {
       tokens = h.tokens;
       are =
@@ -45,7 +46,8 @@ module _ (bytes : List ℕ) (e : Expected) (names : List Text) where
       comes = ap (λ met. outcome e met h.tokens) (sym from_is) ∙ h.comes;
     }
 
-    pub fault_given : (fault : OwlFault) → Faults e (here s predefined names) fault → fault ≢ NoMemory → IsFault bytes e names fault
+    pub fault_given : (fault : OwlFault) → Faults e (here s predefined names) fault → fault ≢ NoMemory
+        → IsFault bytes e names fault
     fault_given fault (inl none) some = absurd (some none)
     fault_given fault (inr by) some = record {
       cause = by.cause;
@@ -73,7 +75,8 @@ module _ (bytes : List ℕ) (e : Expected) (names : List Text) where
       told_fault (Ok d) h = tt
       told_fault (Err fault) h = fault_given fault h
 
-      module _ (placed : (tokens : List Placed) (d : Document) → outcome e (start names) tokens ≡ gives d after → Places names d after) where
+      module _ (placed : (tokens : List Placed) (d : Document) → outcome e (start names) tokens ≡ gives d after
+          → Places names d after) where
         places_of : (d : Document) → GivesBy e (here s predefined names) after d → Places names d after
         places_of d h = let v = value_given d after h in placed v.tokens d v.comes
 

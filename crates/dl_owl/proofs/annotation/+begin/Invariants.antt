@@ -10,7 +10,8 @@ decreases-begin l = left l.at.now
 abbrev pub invariant-loop-at : goal.invariant-loop-at
 invariant-loop-at l =
     (names : List Text) (e : Expected)
-    → Goes (open_then (annotations_then e)) (here l.fn.at l.fn.prefixes names) (annotations_then e) (here l.at l.fn.prefixes names)
+    → Goes (open_then (annotations_then e)) (here l.fn.at l.fn.prefixes names) (annotations_then e) (here l.at
+        l.fn.prefixes names)
 
 abbrev pub decreases-loop-at : goal.decreases-loop-at
 decreases-loop-at l = left l.at
