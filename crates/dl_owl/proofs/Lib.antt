@@ -33,3 +33,8 @@ pub mod PrologueLemmas
 pub mod OntologyLemmas
 pub mod PlaceLemmas
 pub mod ReadingLemmas
+pub mod IriTexts
+pub mod Spelling
+pub mod Stating
+pub mod Stated
+pub mod ReadBack

@@ -1,7 +1,12 @@
 // Laws of the grammar and of reading.
-ghost use Rattle.std.specs.Prelude.{◌≡◌, ℕ, ◌≤◌, ◌↔◌, true, List, length};
-ghost use Rattle.dl_names.specs.NameList.{Text, max_names};
+ghost use Rattle.std.specs.Prelude.{◌≡◌, ◌⊎◌, ℕ, ◌≤◌, ◌↔◌, true, List, ◌∷◌, [], All, Contains, length, slice_get};
+ghost use Rattle.dl_names.specs.NameList.{Text, HasNoRepeats, max_names};
+ghost use Rattle.dl_terms.specs.declared.axiom.Axiom.{Axiom};
+ghost use Rattle.dl_terms.specs.Occurring.{axiom_names};
+ghost use Rattle.dl_terms.specs.Renamed.{renamed_axiom};
 ghost use Rattle.dl_owl.specs.declared.document.Document.{Document};
+ghost use Rattle.dl_owl.specs.AxiomText.{axiom_text};
+ghost use Rattle.dl_owl.specs.Items.{empty_document};
 ghost use Rattle.dl_owl.specs.Symbols.{Placed, symbols_of, AreTokens};
 ghost use Rattle.dl_owl.specs.Causes.{Cause};
 ghost use Rattle.dl_owl.specs.Expected.{Expected, prologue, lone_axiom};
@@ -40,4 +45,17 @@ pub fn reading_gives_one_result()
         → (cause ≡ other) × (at ≡ place) }
     ensures value_or_fault { (bytes : List ℕ) (e : Expected) (names after : List Text) (document : Document)
         (cause : Cause) (at : ℕ) → ReadsValue bytes e names document after → ¬ ReadsFault bytes e names cause at }
+{}
+
+/// A law: the text of an axiom that was read, in an ontology or alone, is read as this axiom and nothing else, and names
+/// none that isn't there. `number` tells where each of its names stands in the list of names that it is printed by,
+/// which may be another one than it was read with.
+pub fn axioms_are_read_back()
+    ensures { (bytes : List ℕ) (e : Expected) (before names held : List Text) (document : Document) (stated : Axiom)
+        (number : ℕ → ℕ) → (e ≡ prologue) ⊎ (e ≡ lone_axiom) → length before ≤ max_names
+        → ReadsValue bytes e before document names → Contains document.axioms stated
+        → HasNoRepeats held → length held ≤ max_names
+        → All (λ n. slice_get held (number n) ≡ slice_get names n) (axiom_names stated)
+        → ReadsValue (axiom_text held (renamed_axiom number stated)) lone_axiom held
+        (record empty_document { axioms = renamed_axiom number stated ∷ [] }) held }
 {}

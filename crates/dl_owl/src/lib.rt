@@ -32,7 +32,8 @@ mod text;
 pub use document::Document;
 pub use fault::{Construct, OwlFault};
 pub use laws::{
-    faults_come_at_their_tokens, reading_gives_one_result, values_are_those_of_the_grammar,
+    axioms_are_read_back, faults_come_at_their_tokens, reading_gives_one_result,
+    values_are_those_of_the_grammar,
 };
 pub use reading::{read_axiom, read_ontology};
 pub use text::axiom_text;
