@@ -54,7 +54,7 @@ next_left bytes s t some next =
 pub moved_ahead : (s new : Spot) → Moved s new → s.token.kind ≢ End → left new < left s
 moved_ahead s new m some =
     subst (λ b. left_by new.token.kind (length b - new.token.end) < left s) (sym m.bytes) (next_left s.bytes s.token
-        new.token some m.next)
+    new.token some m.next)
 
 -- a keyword is not the end
 pub word_some : (w : Keyword) (kind : TokenKind) → kind ≡ Word w → kind ≢ End

@@ -26,7 +26,7 @@ module _ (e next : Expected) (s : Spot) (p : Prefixes) (names : List name_list.T
       advance-goes e next s p names (ap (move_of p e) node_is ∙ fits) (ap (λ t. is_too_deep t s.depth) node_is)
       (λ end. let apart : Node ≡ End = sym is ∙ end in cc) new new m
       (ap (λ t. let u : Spot = record { bytes = new.bytes; token = new.token; depth = depth_after t new.depth } in u)
-          (sym node_is))
+      (sym node_is))
 
   pub node-faults : (fault : OwlFault) → NoneNext s fault → Faults e (here s p names) fault
   node-faults fault none =

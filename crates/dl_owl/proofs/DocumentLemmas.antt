@@ -89,56 +89,60 @@ module _ (kind : TokenKind) (plain : Plain kind) (e : Expected) (s : Spot) (p : 
     plain-goes new m =
         advance-goes e next s p names fits (flat s.depth) some new new m
         (ap (λ d. let u : Spot = record { bytes = new.bytes; token = new.token; depth = d } in u) (sym (level
-            new.depth)))
+        new.depth)))
 
     pub plain-faults : (fault : OwlFault) → NoneNext s fault → Faults e (here s p names) fault
     plain-faults fault none = advance-faults e next s p names fits (flat s.depth) some fault none
 
   -- a prefix that is declared
   module _ (name iri : name_list.Text) (next : Expected) (fits : move_of p e (symbol_at s) ≡ declares name iri next)
-      where
-    declared : (rest : List Placed)
-        → outcome e (met_of (here s p names)) (placed s.bytes s.token ∷ rest)
-        ≡ outcome next (record { prefixes = p ++ (name, iri) ∷ []; names = names; depth = s.depth }) rest
-    declared rest =
-        ap (outcome_of (met_of (here s p names)) (placed s.bytes s.token) (λ f later. outcome f later rest)) fits
-        ∙ ap (λ b. cond b (fails too_deep s.token.start)
-        (outcome next (record { prefixes = p ++ (name, iri) ∷ []; names = names; depth = depth_after (symbol_at s)
-            s.depth })
-        rest)) (flat s.depth)
-        ∙ ap (λ d. outcome next (record { prefixes = p ++ (name, iri) ∷ []; names = names; depth = d }) rest)
-        (level s.depth)
+    where
+      declared : (rest : List Placed)
+          → outcome e (met_of (here s p names)) (placed s.bytes s.token ∷ rest)
+          ≡ outcome next (record { prefixes = p ++ (name, iri) ∷ []; names = names; depth = s.depth }) rest
+      declared rest =
+          ap (outcome_of (met_of (here s p names)) (placed s.bytes s.token) (λ f later. outcome f later rest)) fits
+          ∙ ap (λ b. cond b (fails too_deep s.token.start)
+          (outcome next (record {
+            prefixes = p ++ (name, iri) ∷ [];
+            names = names;
+            depth = depth_after (symbol_at s)
+                s.depth;
+          })
+          rest)) (flat s.depth)
+          ∙ ap (λ d. outcome next (record { prefixes = p ++ (name, iri) ∷ []; names = names; depth = d }) rest)
+          (level s.depth)
 
-    pub declares-goes : (new : Spot) → Moved s new
-        → Goes e (here s p names) next (here new (p ++ (name, iri) ∷ []) names)
-    declares-goes new m = record {
-      same = m.bytes;
-      ahead = moved_ahead s new m some;
-      on = λ all rest from. (
-        placed s.bytes s.token ∷ rest,
-        (
-          walk.FromToken.more some (goes_tokens s.bytes all s.token.end new.token rest m.next from),
-          declared rest
-              ∙ ap (λ d. outcome next (record { prefixes = p ++ (name, iri) ∷ []; names = names; depth = d }) rest)
-              (sym m.depth),
-        ),
-      );
-    }
+      pub declares-goes : (new : Spot) → Moved s new
+          → Goes e (here s p names) next (here new (p ++ (name, iri) ∷ []) names)
+      declares-goes new m = record {
+        same = m.bytes;
+        ahead = moved_ahead s new m some;
+        on = λ all rest from. (
+          placed s.bytes s.token ∷ rest,
+          (
+            walk.FromToken.more some (goes_tokens s.bytes all s.token.end new.token rest m.next from),
+            declared rest
+                ∙ ap (λ d. outcome next (record { prefixes = p ++ (name, iri) ∷ []; names = names; depth = d }) rest)
+                (sym m.depth),
+          ),
+        );
+      }
 
-    pub declares-faults : (fault : OwlFault) → NoneNext s fault → Faults e (here s p names) fault
-    declares-faults fault none =
-        subst (Faults e (here s p names)) (sym none.is)
-        (inr
-        (record {
-          cause = syntax;
-          at = none.at;
-          tokens = placed s.bytes s.token ∷ record { symbol = no_token; at = none.at } ∷ [];
-          is = refl;
-          are = walk.FromToken.more some (symbols.AreTokens.fault none.at none.none);
-          comes =
-              declared (record { symbol = no_token; at = none.at } ∷ [])
-              ∙ ap
-              (outcome_of (record { prefixes = p ++ (name, iri) ∷ []; names = names; depth = s.depth })
-              (record { symbol = no_token; at = none.at }) (λ f later. outcome f later []))
-              (no_token_refused (p ++ (name, iri) ∷ []) next);
-        }))
+      pub declares-faults : (fault : OwlFault) → NoneNext s fault → Faults e (here s p names) fault
+      declares-faults fault none =
+          subst (Faults e (here s p names)) (sym none.is)
+          (inr
+          (record {
+            cause = syntax;
+            at = none.at;
+            tokens = placed s.bytes s.token ∷ record { symbol = no_token; at = none.at } ∷ [];
+            is = refl;
+            are = walk.FromToken.more some (symbols.AreTokens.fault none.at none.none);
+            comes =
+                declared (record { symbol = no_token; at = none.at } ∷ [])
+                ∙ ap
+                (outcome_of (record { prefixes = p ++ (name, iri) ∷ []; names = names; depth = s.depth })
+                (record { symbol = no_token; at = none.at }) (λ f later. outcome f later []))
+                (no_token_refused (p ++ (name, iri) ∷ []) next);
+          }))

@@ -58,7 +58,7 @@ one_of names after places h = joined names after after places [] h (nothing afte
 swapped : (P : ℕ → Type 0) (a b : ℕ) → All P (a ∷ b ∷ []) → All P (b ∷ a ∷ [])
 swapped P a b all =
     All-cons P b (a ∷ []) (All-head P b [] (All-tail P a (b ∷ []) all)) (All-cons P a [] (All-head P a (b ∷ []) all)
-        (All-nil P))
+    (All-nil P))
 
 -- the places that an item names
 abbrev pub item_names : Item → List ℕ
@@ -114,14 +114,14 @@ module _ (p : Prefixes) where
         one_of names after (basic_names b) (sub_placed names inner b _ after sub)
     sup_placed names ss ps rest after
         (expressions.SupThen.intersection {one = one} {two = two} {first = first} {second = second} {others = others}
-            {ps = xs}
+        {ps = xs}
         {qs = ys} {rs = zs} h g f) =
         let x = sup_placed names first xs second one h in
         let y = sup_placed one second ys others two g in
         let z = sups_placed two others zs _ after f in
         subst (Placing names after)
         (sym (flat_map-append part_names xs (ys ++ zs) ∙ ap (λ l. flat_map part_names xs ++ l) (flat_map-append
-            part_names ys zs)))
+        part_names ys zs)))
         (joined names one after (flat_map part_names xs) (flat_map part_names ys ++ flat_map part_names zs) x
         (joined one two after (flat_map part_names ys) (flat_map part_names zs) y z))
 
@@ -202,19 +202,19 @@ module _ (p : Prefixes) where
   operands_placed k names ss i rest after (axioms.OperandsThen.in_thing is iri free) = nothing names
   operands_placed k names ss i rest after
       (axioms.OperandsThen.joined {one = one} {two = two} {first = first} {r = r} {s = s} {t = t} {a = a} {b = b} h g
-          f) =
+      f) =
       by r.inverse
     where
       all : Placing names after (property_of r ∷ a ∷ b ∷ [])
       all =
           joined names two after (property_of r ∷ a ∷ []) (b ∷ [])
           (joined names one two (property_of r ∷ []) (a ∷ []) (property_placed names first r _ one h) (name_placed _
-              one s a two g))
+          one s a two g))
           (name_placed _ two t b after f)
 
       by : (turned : Bool)
           → Placing names after (fact_names (if turned then facts.Link (property_of r) b a else facts.Link
-              (property_of r) a b))
+          (property_of r) a b))
       by false = all
       by true = record {
         grows = all.grows;
@@ -261,7 +261,7 @@ document_later count more d le h = record {
   axioms =
       All-weaker (λ stated. All (λ place. place < count) (axiom_names stated))
       (λ stated. All (λ place. place < more) (axiom_names stated)) (λ stated g. all_later count more (axiom_names
-          stated) le g)
+      stated) le g)
       d.axioms h.axioms;
   facts =
       All-weaker (λ fact. All (λ place. place < count) (fact_names fact))
@@ -318,9 +318,12 @@ item_added names after d i h g =
 axioms_placed : (p : Prefixes) (d : Document) (names : List Text) (ss : List Symbol) (whole : Document) (rest : List
     Symbol)
     (after : List Text) → AxiomsThen p d names ss whole rest after → DocumentBelow (length names) d
-        → Places names whole after
-axioms_placed p d names ss whole rest after ontologies.AxiomsThen.none h = record { grows = Extends-same names; below
-    = h }
+    → Places names whole after
+axioms_placed p d names ss whole rest after ontologies.AxiomsThen.none h = record {
+  grows = Extends-same names;
+  below
+      = h;
+}
 axioms_placed p d names ss whole rest after
     (ontologies.AxiomsThen.more {one = one} {first = first} {others = others} {item = item} g f) h =
     let step = axiom_placed p names first item others one g in

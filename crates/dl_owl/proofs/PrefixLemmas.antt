@@ -17,9 +17,9 @@ declared-shown (e ∷ entries) name = by (bytes_eq name (string_bytes e.0)) refl
   where
     by : (b : Bool) → bytes_eq name (string_bytes e.0) ≡ b
         → declared_iri (shown entries) name ≡ option_map string_bytes (lookup (λ k. bytes_eq name (string_bytes k))
-            entries)
+        entries)
         → declared_iri (shown (e ∷ entries)) name ≡ option_map string_bytes (lookup (λ k. bytes_eq name (string_bytes
-            k)) (e ∷ entries))
+        k)) (e ∷ entries))
     by true is hyp = rw is refl
     by false is hyp = rw is hyp
 
@@ -35,7 +35,7 @@ shown-insert (e ∷ entries) key value none =
         → declared_iri (shown (e ∷ entries)) (string_bytes key) ≡ None
         → (declared_iri (shown entries) (string_bytes key) ≡ None
         → shown (insert_entry string_eq entries key value) ≡ shown entries ++ (string_bytes key, string_bytes value) ∷
-            [])
+        [])
         → shown (insert_entry string_eq (e ∷ entries) key value)
         ≡ shown (e ∷ entries) ++ (string_bytes key, string_bytes value) ∷ []
     by true is none hyp =
@@ -44,6 +44,6 @@ shown-insert (e ∷ entries) key value none =
         absurd (cc)
     by false is none hyp =
         let rest : declared_iri (shown (e ∷ entries)) (string_bytes key) ≡ declared_iri (shown entries) (string_bytes
-            key) =
+        key) =
         rw is refl in
         rw is (ap (λ l. (string_bytes e.0, string_bytes e.1) ∷ l) (hyp (sym rest ∙ none)))

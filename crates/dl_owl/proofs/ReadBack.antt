@@ -19,6 +19,7 @@ use Rattle.dl_terms.specs.declared.role.Role.{Role}
 use Rattle.dl_terms.specs.declared.role.Basic.{Basic}
 use Rattle.dl_terms.specs.declared.axiom.Part.{Part}
 use Rattle.dl_terms.specs.declared.axiom.Axiom.{Axiom}
+use Rattle.dl_terms.specs.Fillers.{RoleHasNoFiller, BasicHasNoFiller, PartHasNoFiller, HasNoFiller}
 use Rattle.dl_terms.specs.Occurring.{role_names, basic_names, part_names, axiom_names}
 use Rattle.dl_terms.specs.Renamed.{renamed_role, renamed_basic, renamed_part, renamed_axiom}
 use Rattle.dl_owl.specs.declared.document.Document.{Document}
@@ -31,7 +32,7 @@ use Rattle.dl_owl.specs.Axioms.{AxiomThen}
 use Rattle.dl_owl.specs.Expected.{Expected, prologue, lone_axiom}
 use Rattle.dl_owl.specs.Reading.{ReadsValue, is_shallow}
 use Rattle.dl_owl.specs.AxiomText.{axiom_text}
-use Rattle.dl_owl.proofs.Whole.{ontology_is, lone_is, is_lone}
+use Rattle.dl_owl.proofs.Whole.{ontology_read, lone_read, is_lone}
 use Rattle.dl_owl.proofs.IriTexts.{iri_of_characters, IsIri-behind_colon}
 use Rattle.dl_owl.proofs.Spelling.{between, tokens_of}
 use Rattle.dl_owl.proofs.Stating as stating
@@ -81,16 +82,68 @@ texted_of bytes all place _ (symbols.AreTokens.token {more = others} t next not 
     an_item (token_texted bytes t.kind t.start t.end next.stands) (texted_of bytes all t.end others them)
 
 -- each axiom of a text has its names among those after it
-pub value_stated : (bytes : List ℕ) (e : Expected) (before after : List name_list.Text) (document : Document) → (e ≡ prologue) ⊎ (e ≡ lone_axiom)
-    → length before ≤ max_names → ReadsValue bytes e before document after → Each (AxiomIn after) document.axioms
-value_stated bytes e before after document (inl whole) fits h =
-    let g = subst (λ f. ReadsValue bytes f before document after) whole h in
-    ontology_stated before (symbols_of g.tokens) document after (texted_of bytes true 0 g.tokens g.are)
-    (ontology_is before g.tokens document after fits g.comes).0
-value_stated bytes e before after document (inr lone) fits h =
-    let g = subst (λ f. ReadsValue bytes f before document after) lone h in
-    lone_axiom_stated before (symbols_of g.tokens) document after (texted_of bytes true 0 g.tokens g.are)
-    (lone_is before g.tokens document after fits g.comes).0
+pub ontology_in : (bytes : List ℕ) (before after : List name_list.Text) (document : Document) → ReadsValue bytes prologue before document after
+    → Each (AxiomIn after) document.axioms
+ontology_in bytes before after document h =
+    ontology_stated before (symbols_of h.tokens) document after (texted_of bytes true 0 h.tokens h.are)
+    (ontology_read before h.tokens document after h.comes)
+
+pub lone_axiom_in : (bytes : List ℕ) (before after : List name_list.Text) (document : Document) → ReadsValue bytes lone_axiom before document after
+    → Each (AxiomIn after) document.axioms
+lone_axiom_in bytes before after document h =
+    lone_axiom_stated before (symbols_of h.tokens) document after (texted_of bytes true 0 h.tokens h.are)
+    (lone_read before h.tokens document after h.comes)
+
+value_stated : (bytes : List ℕ) (e : Expected) (before after : List name_list.Text) (document : Document) → (e ≡ prologue) ⊎ (e ≡ lone_axiom)
+    → ReadsValue bytes e before document after → Each (AxiomIn after) document.axioms
+value_stated bytes e before after document (inl whole) h =
+    ontology_in bytes before after document (subst (λ f. ReadsValue bytes f before document after) whole h)
+value_stated bytes e before after document (inr lone) h =
+    lone_axiom_in bytes before after document (subst (λ f. ReadsValue bytes f before document after) lone h)
+
+-- ---- none of them has a filler
+
+role_plain : (names : List name_list.Text) (r : Role) → RoleIn names r → RoleHasNoFiller r
+role_plain names _ (stating.RoleIn.plain h) = tt
+role_plain names _ (stating.RoleIn.inverse h) = tt
+
+basic_plain : (names : List name_list.Text) (b : Basic) → BasicIn names b → BasicHasNoFiller b
+basic_plain names _ (stating.BasicIn.class h) = tt
+basic_plain names _ (stating.BasicIn.some {r = r} h) = role_plain names r h
+
+part_plain : (names : List name_list.Text) (p : Part) → PartIn names p → PartHasNoFiller p
+part_plain names _ stating.PartIn.thing = tt
+part_plain names _ (stating.PartIn.class h) = tt
+part_plain names _ (stating.PartIn.any {r = r} h) = role_plain names r h
+part_plain names _ (stating.PartIn.fill {r = r} h g) = role_plain names r h
+part_plain names _ (stating.PartIn.complement {b = b} h) = basic_plain names b h
+
+each_weaker : {X : Type 0} (P Q : X → Type 0) → ((x : X) → P x → Q x) → (xs : List X) → Each P xs → All Q xs
+each_weaker P Q f _ no_items = All-nil Q
+each_weaker P Q f _ (an_item {x = x} {xs = xs} h hs) = All-cons Q x xs (f x h) (each_weaker P Q f xs hs)
+
+parts_plain : (names : List name_list.Text) (ps : List Part) → PartsIn names ps → All PartHasNoFiller ps
+parts_plain names _ (stating.PartsIn.parts {p = p} {ps = ps} h hs) =
+    All-cons PartHasNoFiller p ps (part_plain names p h) (each_weaker (PartIn names) PartHasNoFiller (part_plain names) ps hs)
+
+axiom_plain : (names : List name_list.Text) (a : Axiom) → AxiomIn names a → HasNoFiller a
+axiom_plain names _ (stating.AxiomIn.sub_class {b = b} {ps = ps} h g) = (basic_plain names b h, parts_plain names ps g)
+axiom_plain names _ (stating.AxiomIn.equivalent_classes {bs = bs} h two) =
+    each_weaker (BasicIn names) BasicHasNoFiller (basic_plain names) bs h
+axiom_plain names _ (stating.AxiomIn.disjoint_classes {bs = bs} h two) =
+    each_weaker (BasicIn names) BasicHasNoFiller (basic_plain names) bs h
+axiom_plain names _ (stating.AxiomIn.sub_role {r = r} {s = s} h g) = (role_plain names r h, role_plain names s g)
+axiom_plain names _ (stating.AxiomIn.equivalent_roles {rs = rs} h two) = each_weaker (RoleIn names) RoleHasNoFiller (role_plain names) rs h
+axiom_plain names _ (stating.AxiomIn.disjoint_roles {rs = rs} h two) = each_weaker (RoleIn names) RoleHasNoFiller (role_plain names) rs h
+axiom_plain names _ (stating.AxiomIn.inverse_roles {r = r} {s = s} h g) = (role_plain names r h, role_plain names s g)
+axiom_plain names _ (stating.AxiomIn.domain {r = r} {ps = ps} h g) = (role_plain names r h, parts_plain names ps g)
+axiom_plain names _ (stating.AxiomIn.range {r = r} {ps = ps} h g) = (role_plain names r h, parts_plain names ps g)
+axiom_plain names _ (stating.AxiomIn.symmetric {r = r} h) = role_plain names r h
+axiom_plain names _ (stating.AxiomIn.asymmetric {r = r} h) = role_plain names r h
+axiom_plain names _ (stating.AxiomIn.irreflexive {r = r} h) = role_plain names r h
+
+pub axioms_plain : (names : List name_list.Text) (axioms : List Axiom) → Each (AxiomIn names) axioms → All HasNoFiller axioms
+axioms_plain names axioms h = each_weaker (AxiomIn names) HasNoFiller (axiom_plain names) axioms h
 
 -- ---- over another list that has the names
 
@@ -202,11 +255,11 @@ text_reads held a distinct fits h =
     }
 
 pub read_back : (bytes : List ℕ) (e : Expected) (before names held : List name_list.Text) (document : Document) (stated : Axiom) (number : ℕ → ℕ)
-    → (e ≡ prologue) ⊎ (e ≡ lone_axiom) → length before ≤ max_names → ReadsValue bytes e before document names → Contains document.axioms stated
+    → (e ≡ prologue) ⊎ (e ≡ lone_axiom) → ReadsValue bytes e before document names → Contains document.axioms stated
     → HasNoRepeats held → length held ≤ max_names → All (λ n. slice_get held (number n) ≡ slice_get names n) (axiom_names stated)
     → ReadsValue (axiom_text held (renamed_axiom number stated)) lone_axiom held
     (record empty_document { axioms = renamed_axiom number stated ∷ [] }) held
-read_back bytes e before names held document stated number start fits h has distinct held_fit same =
-    let all = each_of (AxiomIn names) document.axioms (value_stated bytes e before names document start fits h) in
+read_back bytes e before names held document stated number start h has distinct held_fit same =
+    let all = each_of (AxiomIn names) document.axioms (value_stated bytes e before names document start h) in
     let there : AxiomIn names stated = subst (AxiomIn names) has.2 (all has.0 stated has.1) in
     text_reads held (renamed_axiom number stated) distinct held_fit (axiom_again names held number stated same there)

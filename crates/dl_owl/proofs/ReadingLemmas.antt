@@ -1,6 +1,7 @@
 -- From the first token of the bytes to all that is read.
 use Rattle.std.proofs.Common.{◌≡◌, ◌≢◌, ◌<◌, ℕ, true, false, All, Result, Ok, Err, IfOk, IfErr, OnOk, List, [], ◌∷◌, length, inl, inr, sym, ap, ◌∙◌, subst}
 use Rattle.dl_names.specs.NameList.{Text, Extends}
+use Rattle.dl_terms.specs.Fillers.{HasNoFiller}
 use Rattle.dl_terms.specs.Occurring.{axiom_names, fact_names}
 use Rattle.dl_owl.specs.declared.document.Document.{Document}
 use Rattle.dl_owl.specs.declared.fault.OwlFault.{OwlFault}
@@ -74,6 +75,11 @@ module _ (bytes : List ℕ) (e : Expected) (names : List Text) where
           → IfErr r (λ fault. fault ≢ NoMemory → IsFault bytes e names fault)
       told_fault (Ok d) h = tt
       told_fault (Err fault) h = fault_given fault h
+
+      pub told_plain : ((d : Document) → ReadsValue bytes e names d after → All HasNoFiller d.axioms) → (r : Result Document OwlFault)
+          → Ends e (here s predefined names) after r → IfOk r (λ d. All HasNoFiller d.axioms)
+      told_plain plain (Ok d) h = plain d (value_given d after h)
+      told_plain plain (Err fault) h = tt
 
       module _ (placed : (tokens : List Placed) (d : Document) → outcome e (start names) tokens ≡ gives d after
           → Places names d after) where

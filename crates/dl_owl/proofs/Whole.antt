@@ -25,23 +25,24 @@ module _ (names : List Text) (tokens : List Placed) (document : Document) (after
   abbrev Limits : Type 0
   Limits = (is_shallow 0 (symbols_of tokens) ≡ true) × (length after ≤ max_names)
 
+  pub ontology_read : outcome prologue (start names) tokens ≡ gives document after → IsOntology names (symbols_of tokens) document after
+  ontology_read h =
+      let text = (sound document after tokens prologue (start names) h).0 in
+      record {
+        prefixes = text.prefixes;
+        title = text.rest;
+        annotations = text.then.0;
+        axioms = text.then.1.1.0;
+        declared = text.declared;
+        titled = title_of text.prefixes text.rest text.then.0 text.then.1.0;
+        annotated = text.then.1.1.1.0;
+        read = text.then.1.1.1.1;
+      }
+
   pub ontology_is : length names ≤ max_names → outcome prologue (start names) tokens ≡ gives document after
       → IsOntology names (symbols_of tokens) document after × Limits
   ontology_is fits h =
-      let right = sound document after tokens prologue (start names) h in
-      let text = right.0 in (
-        record {
-          prefixes = text.prefixes;
-          title = text.rest;
-          annotations = text.then.0;
-          axioms = text.then.1.1.0;
-          declared = text.declared;
-          titled = title_of text.prefixes text.rest text.then.0 text.then.1.0;
-          annotated = text.then.1.1.1.0;
-          read = text.then.1.1.1.1;
-        },
-        (right.1, right.2 fits),
-      )
+      let right = sound document after tokens prologue (start names) h in (ontology_read h, (right.1, right.2 fits))
 
   pub is_ontology : IsOntology names (symbols_of tokens) document after → Limits → outcome prologue (start names) tokens ≡ gives document after
   is_ontology h limits =
@@ -56,11 +57,15 @@ module _ (names : List Text) (tokens : List Placed) (document : Document) (after
         limits.1,
       )
 
+  pub lone_read : outcome lone_axiom (start names) tokens ≡ gives document after → IsLoneAxiom names (symbols_of tokens) document after
+  lone_read h =
+      let text = (sound document after tokens lone_axiom (start names) h).0 in
+      record { item = text.item; read = text.read; is = text.is }
+
   pub lone_is : length names ≤ max_names → outcome lone_axiom (start names) tokens ≡ gives document after
       → IsLoneAxiom names (symbols_of tokens) document after × Limits
   lone_is fits h =
-      let right = sound document after tokens lone_axiom (start names) h in
-      let text = right.0 in (record { item = text.item; read = text.read; is = text.is }, (right.1, right.2 fits))
+      let right = sound document after tokens lone_axiom (start names) h in (lone_read h, (right.1, right.2 fits))
 
   pub is_lone : IsLoneAxiom names (symbols_of tokens) document after → Limits → outcome lone_axiom (start names) tokens ≡ gives document after
   is_lone h limits =

@@ -47,12 +47,12 @@ pub fn reading_gives_one_result()
         (cause : Cause) (at : ℕ) → ReadsValue bytes e names document after → ¬ ReadsFault bytes e names cause at }
 {}
 
-/// A law: the text of an axiom that was read, in an ontology or alone, is read as this axiom and nothing else, and names
-/// none that isn't there. `number` tells where each of its names stands in the list of names that it is printed by,
-/// which may be another one than it was read with.
+/// A law: the text of an axiom that was read, in an ontology or alone, is read as this axiom and nothing else, and
+/// names none that isn't there. `number` tells where each of its names stands in the list of names that it is printed
+/// by, which may be another one than it was read with.
 pub fn axioms_are_read_back()
     ensures { (bytes : List ℕ) (e : Expected) (before names held : List Text) (document : Document) (stated : Axiom)
-        (number : ℕ → ℕ) → (e ≡ prologue) ⊎ (e ≡ lone_axiom) → length before ≤ max_names
+        (number : ℕ → ℕ) → (e ≡ prologue) ⊎ (e ≡ lone_axiom)
         → ReadsValue bytes e before document names → Contains document.axioms stated
         → HasNoRepeats held → length held ≤ max_names
         → All (λ n. slice_get held (number n) ≡ slice_get names n) (axiom_names stated)

@@ -1,6 +1,7 @@
 // Reads an ontology, or one axiom.
 ghost use Rattle.std.specs.Prelude.{◌≡◌, ◌≢◌, ◌<◌, length, All, IfOk, IfErr, OnOk};
 ghost use Rattle.dl_names.specs.NameList.{Extends};
+ghost use Rattle.dl_terms.specs.Fillers.{HasNoFiller};
 ghost use Rattle.dl_terms.specs.Occurring.{axiom_names, fact_names};
 ghost use Rattle.dl_owl.specs.Expected.{prologue, lone_axiom};
 ghost use Rattle.dl_owl.specs.Reading.{ReadsValue, IsFault};
@@ -15,11 +16,7 @@ use std::alloc::Global;
 /// Reads an ontology document of OWL 2 QL in the functional-style syntax. Names are places in the name set, by first
 /// occurrence. The fault is that of the first token at which reading can't go on. Memory is all else that may be
 /// wanting.
-pub fn read_ontology(
-    alloc: Global,
-    bytes: &[u8],
-    names: &mut NameSet,
-) -> Result<Document, OwlFault>
+pub fn read_ontology(alloc: Global, bytes: &[u8], names: &mut NameSet) -> Result<Document, OwlFault>
     ensures value { IfOk result (λ document.
         ReadsValue bytes.now prologue names.old document names.new) }
     ensures fault { IfErr result (λ fault. fault ≢ OwlFault.NoMemory →
@@ -33,6 +30,7 @@ pub fn read_ontology(
     ensures role_places { IfOk result (λ document.
         All (λ place. place < length names.new) document.roles) }
     ensures grows { OnOk result (Extends names.old names.new) }
+    ensures no_fillers { IfOk result (λ document. All HasNoFiller document.axioms) }
 {
     match Cursor::new(bytes) {
         Ok(mut at) => whole(alloc, &mut at, names),
@@ -41,11 +39,7 @@ pub fn read_ontology(
 }
 
 /// Reads one axiom alone, with the predefined prefixes.
-pub fn read_axiom(
-    alloc: Global,
-    bytes: &[u8],
-    names: &mut NameSet,
-) -> Result<Document, OwlFault>
+pub fn read_axiom(alloc: Global, bytes: &[u8], names: &mut NameSet) -> Result<Document, OwlFault>
     ensures value { IfOk result (λ document.
         ReadsValue bytes.now lone_axiom names.old document names.new) }
     ensures fault { IfErr result (λ fault. fault ≢ OwlFault.NoMemory →
@@ -59,6 +53,7 @@ pub fn read_axiom(
     ensures role_places { IfOk result (λ document.
         All (λ place. place < length names.new) document.roles) }
     ensures grows { OnOk result (Extends names.old names.new) }
+    ensures no_fillers { IfOk result (λ document. All HasNoFiller document.axioms) }
 {
     match Cursor::new(bytes) {
         Ok(mut at) => lone(alloc, &mut at, names),

@@ -11,7 +11,7 @@ abbrev pub invariant-loop-at : goal.invariant-loop-at
 invariant-loop-at l =
     (names : List Text) (e : Expected)
     → Goes (open_then (annotations_then e)) (here l.fn.at l.fn.prefixes names) (annotations_then e) (here l.at
-        l.fn.prefixes names)
+    l.fn.prefixes names)
 
 abbrev pub decreases-loop-at : goal.decreases-loop-at
 decreases-loop-at l = left l.at

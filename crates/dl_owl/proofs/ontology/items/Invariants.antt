@@ -7,7 +7,7 @@ use Rattle.dl_owl.proofs.ontology.items.Given as goal
 abbrev pub invariant-stated : goal.invariant-stated
 invariant-stated l =
     Behind (items empty_document) (here l.fn.at l.fn.prefixes l.fn.names) (items l.document) (here l.at l.fn.prefixes
-        l.names)
+    l.names)
 
 abbrev pub decreases-stated : goal.decreases-stated
 decreases-stated l = left l.at

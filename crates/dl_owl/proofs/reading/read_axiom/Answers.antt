@@ -1,6 +1,7 @@
 use Rattle.dl_owl.specs.Expected.{lone_axiom}
 use Rattle.dl_owl.proofs.PlaceLemmas.{axiom_places}
-use Rattle.dl_owl.proofs.ReadingLemmas.{none_first, told_value, told_fault, told_axioms, told_facts, told_classes, told_roles, told_growth}
+use Rattle.dl_owl.proofs.ReadBack.{lone_axiom_in, axioms_plain}
+use Rattle.dl_owl.proofs.ReadingLemmas.{none_first, told_value, told_fault, told_axioms, told_facts, told_classes, told_roles, told_growth, told_plain}
 use Rattle.dl_owl.proofs.reading.read_axiom.Goals as goal
 
 pub returns-in-Ok-clause-value : goal.returns-in-Ok-clause-value
@@ -41,6 +42,12 @@ pub returns-in-Ok-clause-grows : goal.returns-in-Ok-clause-grows
 returns-in-Ok-clause-grows c =
     told_growth c.args.bytes.now lone_axiom c.args.names.now c.in-Ok.at c.in-Ok.ensures.begins c.lone.new.names (λ
     tokens d h. axiom_places c.args.names.now tokens d c.lone.new.names h)
+    c.lone.result c.lone.ensures
+
+pub returns-in-Ok-clause-no_fillers : goal.returns-in-Ok-clause-no_fillers
+returns-in-Ok-clause-no_fillers c =
+    told_plain c.args.bytes.now lone_axiom c.args.names.now c.in-Ok.at c.in-Ok.ensures.begins c.lone.new.names (λ
+    d h. axioms_plain c.lone.new.names d.axioms (lone_axiom_in c.args.bytes.now c.args.names.now c.lone.new.names d h))
     c.lone.result c.lone.ensures
 
 pub returns-in-Err-clause-fault : goal.returns-in-Err-clause-fault

@@ -1,6 +1,7 @@
 use Rattle.dl_owl.specs.Expected.{prologue}
 use Rattle.dl_owl.proofs.PlaceLemmas.{ontology_places}
-use Rattle.dl_owl.proofs.ReadingLemmas.{none_first, told_value, told_fault, told_axioms, told_facts, told_classes, told_roles, told_growth}
+use Rattle.dl_owl.proofs.ReadBack.{ontology_in, axioms_plain}
+use Rattle.dl_owl.proofs.ReadingLemmas.{none_first, told_value, told_fault, told_axioms, told_facts, told_classes, told_roles, told_growth, told_plain}
 use Rattle.dl_owl.proofs.reading.read_ontology.Goals as goal
 
 pub returns-in-Ok-clause-value : goal.returns-in-Ok-clause-value
@@ -41,6 +42,12 @@ pub returns-in-Ok-clause-grows : goal.returns-in-Ok-clause-grows
 returns-in-Ok-clause-grows c =
     told_growth c.args.bytes.now prologue c.args.names.now c.in-Ok.at c.in-Ok.ensures.begins c.whole.new.names (λ
     tokens d h. ontology_places c.args.names.now tokens d c.whole.new.names h)
+    c.whole.result c.whole.ensures
+
+pub returns-in-Ok-clause-no_fillers : goal.returns-in-Ok-clause-no_fillers
+returns-in-Ok-clause-no_fillers c =
+    told_plain c.args.bytes.now prologue c.args.names.now c.in-Ok.at c.in-Ok.ensures.begins c.whole.new.names (λ
+    d h. axioms_plain c.whole.new.names d.axioms (ontology_in c.args.bytes.now c.args.names.now c.whole.new.names d h))
     c.whole.result c.whole.ensures
 
 pub returns-in-Err-clause-fault : goal.returns-in-Err-clause-fault
