@@ -1,11 +1,12 @@
 -- The files of `answer` give one input at most, and what was read by places is one by numbers.
-use Rattle.std.proofs.Common.{◌≡◌, ◌↔◌, is_some, ℕ, ◌<◌, ◌≤◌, List, [], ◌∷◌, length, map, get_or, slice_index, slice_get, Option, Some, None, subst, ap, sym, inl, inr, ◌∙◌, refl, arith, true≢false}
+use Rattle.std.proofs.Common.{◌≡◌, ◌↔◌, is_some, ℕ, ◌<◌, ◌≤◌, List, [], ◌∷◌, ◌++◌, length, map, get_or, slice_index, slice_get, Option, Some, None, subst, ap, sym, ◌∙◌, refl, arith, true≢false}
+use Rattle.std.specs.Ordering.{nat_cmp}
 use Rattle.std.specs.declared.cmp.Ordering.{Ordering}
 use Rattle.std.specs.declared.cmp.Ordering.TheVariants.{Less}
 use Rattle.std.specs.List.{All, AllByRecursion}
 use Rattle.std.specs.List.Sorted.{IsStrictlySortedBy}
-use Rattle.std.proofs.lemmas.List.{length-map}
-use Rattle.std.proofs.lemmas.List.Elements.{All-contains, All-weaker, Contains-get_or}
+use Rattle.std.proofs.lemmas.List.{length-map, map-append}
+use Rattle.std.proofs.lemmas.List.Elements.{All-append, All-contains, All-weaker, Contains-get_or}
 use Rattle.dl_names.specs.NameList.{Text, has_name, max_names}
 use Rattle.dl_names.specs.Frozen.{IsFrozen, IsAscending}
 use Rattle.dl_names.specs.Iris.{owl_nothing}
@@ -20,16 +21,15 @@ use Rattle.dl_terms.specs.declared.axiom.Axiom.{Axiom}
 use Rattle.dl_terms.specs.declared.axiom.Fact.{Fact}
 use Rattle.dl_terms.specs.declared.query.Query.{Query}
 use Rattle.dl_terms.proofs.AnswerLemmas.{IsSetOf-unique}
-use Rattle.dl_terms.proofs.MemberLemmas.{Contains-cons, Contains-one}
-use Rattle.dl_terms.proofs.OrderLemmas.{axioms_linear, facts_linear}
+use Rattle.dl_terms.proofs.OrderLemmas.{axioms_linear, facts_linear, numbers_linear}
 use Rattle.dl_terms.proofs.OccurringLemmas.{axiom_names-renamed, fact_names-renamed}
+use Rattle.dl_owl.specs.declared.document.Document.{Document}
+use Rattle.dl_owl.specs.Expected.{prologue}
+use Rattle.dl_owl.proofs.TokenLists.{one_value}
 use Rattle.dl_triples.specs.Reading.{IsValue}
 use Rattle.dl_triples.proofs.PlaceLemmas.{read_grows}
 use Rattle.dl_triples.proofs.ValueLemmas.{one_value as one_data}
-use Rattle.dl_run.specs.Inclusions.{inclusion, inclusions_of}
 use Rattle.dl_run.specs.Input.{Load, IsNumberOf, AreRead, AreInput}
-use Rattle.dl_run.specs.Ranked.{ranked_pair}
-use Rattle.dl_run.proofs.OntologyLemmas.{IsOntology-unique}
 use Rattle.dl_run.specs.Asked.{load_of, query_of, IsNumbered}
 use Rattle.dl_run.specs.Members.{members_of}
 use Rattle.dl_run.specs.Queries.{IsQuery}
@@ -41,11 +41,11 @@ use Rattle.dl_run.proofs.QueryLemmas.{IsQuery-unique}
 -- ---- one input
 
 -- ontology and data are read in one way
-pub AreRead-unique : {o d q : List ℕ} {axioms other : List Axiom} {triples others : List Fact} {skipped also : ℕ} {names later : List Text}
-    → AreRead o d q axioms triples skipped names → AreRead o d q other others also later
-    → (axioms ≡ other) × (triples ≡ others) × (skipped ≡ also) × (names ≡ later)
-AreRead-unique {o} {d} {q} {axioms} {other} {triples} {others} {skipped} {also} {names} {later} one two =
-    let first = IsOntology-unique one.is_ontology.is_ontology two.is_ontology.is_ontology in
+pub AreRead-unique : {o d q : List ℕ} {document other : Document} {triples others : List Fact} {skipped also : ℕ} {names later : List Text}
+    → AreRead o d q document triples skipped names → AreRead o d q other others also later
+    → (document ≡ other) × (triples ≡ others) × (skipped ≡ also) × (names ≡ later)
+AreRead-unique {o} {d} {q} {document} {other} {triples} {others} {skipped} {also} {names} {later} one two =
+    let first = one_value o prologue [] document other one.first two.first one.is_ontology two.is_ontology in
     let then =
     one_data d two.first triples others skipped also names later (subst (λ m. IsValue d m triples skipped names) first.1 one.is_data) two.is_data
     in
@@ -58,8 +58,16 @@ IsNumberOf-unique names ascending text None (Some m) h k = absurd (true≢false 
 IsNumberOf-unique names ascending text (Some n) None h k = absurd (true≢false (sym (has_name-slice_get names text n h) ∙ k))
 IsNumberOf-unique names ascending text (Some n) (Some m) h k = ap Some (number-unique names ascending n m text h k)
 
-same_load : (l m : Load) → l.names ≡ m.names → l.axioms ≡ m.axioms → l.facts ≡ m.facts → l.skipped ≡ m.skipped → l.nothing ≡ m.nothing → l ≡ m
-same_load l m a b c d e = λ i. record { names = a i; axioms = b i; facts = c i; skipped = d i; nothing = e i }
+same_load : (l m : Load) → l.names ≡ m.names → l.axioms ≡ m.axioms → l.facts ≡ m.facts → l.classes ≡ m.classes → l.roles ≡ m.roles → l.skipped ≡ m.skipped → l.nothing ≡ m.nothing → l ≡ m
+same_load l m a b c d e f g = λ i. record {
+  names = a i;
+  axioms = b i;
+  facts = c i;
+  classes = d i;
+  roles = e i;
+  skipped = f i;
+  nothing = g i;
+}
 
 -- the files give one input at most
 pub AreInput-unique : {o d q : List ℕ} {load other : Load} {asked also : Query}
@@ -70,16 +78,21 @@ AreInput-unique {o} {d} {q} {load} {other} {asked} {also} one two =
     let frozen = subst (λ m. IsFrozen m load.names one.ranks) last.1 one.is_frozen in
     let names = IsFrozen-same_names two.met load.names other.names one.ranks two.ranks frozen two.is_frozen in
     let ranks = IsFrozen-same_ranks two.met load.names other.names one.ranks two.ranks frozen two.is_frozen in
-    let axioms = subst (λ a. IsSetOf axiom_cmp load.axioms (map (renamed_axiom (slice_index two.ranks)) a)) read.0
-    (subst (λ r. IsSetOf axiom_cmp load.axioms (map (renamed_axiom (slice_index r)) one.axioms)) ranks one.is_axioms) in
-    let facts = subst (λ t. IsSetOf fact_cmp load.facts (map (renamed_fact (slice_index two.ranks)) t)) read.1
-    (subst (λ r. IsSetOf fact_cmp load.facts (map (renamed_fact (slice_index r)) one.triples)) ranks one.is_facts) in
+    let axioms = subst (λ (a : Document). IsSetOf axiom_cmp load.axioms (map (renamed_axiom (slice_index two.ranks)) a.axioms)) read.0
+    (subst (λ r. IsSetOf axiom_cmp load.axioms (map (renamed_axiom (slice_index r)) one.document.axioms)) ranks one.is_axioms) in
+    let joined : one.triples ++ one.document.facts ≡ two.triples ++ two.document.facts = λ i. read.1 i ++ (read.0 i).facts in
+    let facts = subst (λ t. IsSetOf fact_cmp load.facts (map (renamed_fact (slice_index two.ranks)) t)) joined
+    (subst (λ r. IsSetOf fact_cmp load.facts (map (renamed_fact (slice_index r)) (one.triples ++ one.document.facts))) ranks one.is_facts) in
+    let classes = subst (λ (a : Document). IsSetOf nat_cmp load.classes (map (slice_index two.ranks) a.classes)) read.0
+    (subst (λ r. IsSetOf nat_cmp load.classes (map (slice_index r) one.document.classes)) ranks one.is_classes) in
+    let roles = subst (λ (a : Document). IsSetOf nat_cmp load.roles (map (slice_index two.ranks) a.roles)) read.0
+    (subst (λ r. IsSetOf nat_cmp load.roles (map (slice_index r) one.document.roles)) ranks one.is_roles) in
     let nothing =
     IsNumberOf-unique other.names two.is_frozen.ascending owl_nothing load.nothing other.nothing
     (subst (λ n. IsNumberOf n owl_nothing load.nothing) names one.is_nothing) two.is_nothing
     in (
       same_load load other names (IsSetOf-unique axioms_linear _ _ _ axioms two.is_axioms) (IsSetOf-unique facts_linear _ _ _ facts two.is_facts)
-          read.2 nothing,
+          (IsSetOf-unique numbers_linear _ _ _ classes two.is_classes) (IsSetOf-unique numbers_linear _ _ _ roles two.is_roles) read.2 nothing,
       one.is_asked ∙ ap (λ r. renamed_query (slice_index r) one.query_read) ranks ∙ ap (renamed_query (slice_index two.ranks)) last.0 ∙ sym two.is_asked,
     )
 
@@ -128,6 +141,10 @@ module _ (met names : List Text) (ranks : List ℕ) (frozen : IsFrozen met names
 
 -- ---- places
 
+-- and so do the places of numbers alone
+pub numbers_later : (n m : ℕ) (items : List ℕ) → n ≤ m → All (λ place. place < n) items → All (λ place. place < m) items
+numbers_later n m items more = All-weaker (λ (place : ℕ). place < n) (λ place. place < m) (λ place below. omega arith) items
+
 -- places stay places while names are added
 pub placed_later : {A : Type 0} (names_of : A → List ℕ) (n m : ℕ) (items : List A) → n ≤ m
     → All (λ a. All (λ place. place < n) (names_of a)) items → All (λ a. All (λ place. place < m) (names_of a)) items
@@ -146,11 +163,11 @@ query_grows {names = names} {after = after} query =
     subst (λ l. length names ≤ length l) (sym query.named) (length-Extends names _ (Extends-names_after names query.class))
 
 -- what was read by places, numbered, is the input that the bytes give
-pub input_from : (o d q : List ℕ) (inclusions : List (ℕ × ℕ)) (triples : Triples) (before met : List Text) (class : ℕ) (asked : Asked)
-    → AreRead o d q (inclusions_of inclusions) triples.facts triples.skipped before → IsQuery q before (members_of class) met
-    → length met ≤ max_names → IsNumbered met inclusions triples class asked → AreInput o d q (load_of asked) (query_of asked)
-input_from o d q inclusions triples before met class asked read query fits numbered = record {
-  axioms = inclusions_of inclusions;
+pub input_from : (o d q : List ℕ) (document : Document) (triples : Triples) (before met : List Text) (class : ℕ) (asked : Asked)
+    → AreRead o d q document triples.facts triples.skipped before → IsQuery q before (members_of class) met
+    → length met ≤ max_names → IsNumbered met document triples class asked → AreInput o d q (load_of asked) (query_of asked)
+input_from o d q document triples before met class asked read query fits numbered = record {
+  document = document;
   triples = triples.facts;
   query_read = members_of class;
   met_before = before;
@@ -162,40 +179,28 @@ input_from o d q inclusions triples before met class asked read query fits numbe
   is_frozen = numbered.is_frozen;
   is_axioms = numbered.is_axioms;
   is_facts = numbered.is_facts;
+  is_classes = numbered.is_classes;
+  is_roles = numbered.is_roles;
   is_asked = ap members_of numbered.is_class;
   is_nothing = numbered.is_nothing;
 }
+
+-- the set of the facts of two lists, by ranks
+pub set_of_joined : (to : ℕ → ℕ) (facts others ranked also both set : List Fact) → ranked ≡ map (renamed_fact to) facts → also ≡ map (renamed_fact to) others
+    → both ≡ ranked ++ also → IsSetOf fact_cmp set both → IsSetOf fact_cmp set (map (renamed_fact to) (facts ++ others))
+set_of_joined to facts others ranked also both set one two is =
+    subst (IsSetOf fact_cmp set) (is ∙ (λ i. one i ++ two i) ∙ sym (map-append (renamed_fact to) facts others))
+
+-- and their places
+pub joined_placed : (n : ℕ) (facts others : List Fact) → All (λ f. All (λ place. place < n) (fact_names f)) facts
+    → All (λ f. All (λ place. place < n) (fact_names f)) others → All (λ f. All (λ place. place < n) (fact_names f)) (facts ++ others)
+joined_placed n facts others = All-append (λ (f : Fact). All (λ place. place < n) (fact_names f)) facts others
 
 -- the number of a text, as a search for it gives it
 pub number_found : (names : List Text) (text : Text) (o : Option ℕ) → ((n : ℕ) → (o ≡ Some n) ↔ (slice_get names n ≡ Some text))
     → is_some o ≡ has_name names text → IsNumberOf names text o
 number_found names text (Some n) some none = (some n).0 refl
 number_found names text None some none = sym none
-
--- inclusions by ranks
-pub renamed_inclusions : (ranks : List ℕ) (pairs : List (ℕ × ℕ))
-    → inclusions_of (map (ranked_pair ranks) pairs) ≡ map (renamed_axiom (slice_index ranks)) (inclusions_of pairs)
-renamed_inclusions ranks [] = refl
-renamed_inclusions ranks (p ∷ pairs) = ap (λ rest. inclusion (slice_index ranks p.0) (slice_index ranks p.1) ∷ rest) (renamed_inclusions ranks pairs)
-
--- and their places
-pub inclusions_placed : (n : ℕ) (pairs : List (ℕ × ℕ)) → All (λ p. (p.0 < n) × (p.1 < n)) pairs
-    → All (λ a. All (λ place. place < n) (axiom_names a)) (inclusions_of pairs)
-inclusions_placed n pairs all k d h =
-    let x = Contains-map (λ (p : ℕ × ℕ). inclusion p.0 p.1) pairs (get_or (inclusions_of pairs) k d) (Contains-get_or _ k d h) in
-    let within = All-contains (λ (p : ℕ × ℕ). (p.0 < n) × (p.1 < n)) pairs x.0 all x.1 in
-    subst (λ (a : Axiom). All (λ place. place < n) (axiom_names a)) x.2 (two x.0.0 x.0.1 within.0 within.1)
-  where
-    two : (a b : ℕ) → a < n → b < n → All (λ place. place < n) (a ∷ b ∷ [])
-    two a b f g j e j_in = elim (Contains-cons a (get_or (a ∷ b ∷ []) j e) (b ∷ []) (Contains-get_or (a ∷ b ∷ []) j e j_in)) [
-      | inl same ↦ subst (λ z. z < n) same f
-      | inr more ↦ subst (λ z. z < n) (Contains-one b (get_or (a ∷ b ∷ []) j e) more) g
-    ]
-
--- places of pairs stay places while names are added
-pub pairs_later : (n m : ℕ) (pairs : List (ℕ × ℕ)) → n ≤ m → All (λ p. (p.0 < n) × (p.1 < n)) pairs → All (λ p. (p.0 < m) × (p.1 < m)) pairs
-pairs_later n m pairs more =
-    All-weaker (λ (p : ℕ × ℕ). (p.0 < n) × (p.1 < n)) (λ p. (p.0 < m) × (p.1 < m)) (λ p h. (omega (arith, h.0), omega (arith, h.1))) pairs
 
 -- a set of names is as long as the keys that hold it
 pub fits_from_keys : {A : Type 0} (f : A → Text) (keys : List A) (names : List Text) → map f keys ≡ names → length keys ≤ max_names → length names ≤ max_names

@@ -7,7 +7,6 @@ pub mod MemberLemmas
 pub mod WordLemmas
 pub mod ScanLemmas
 pub mod TokenLemmas
-pub mod OntologyLemmas
 pub mod QueryLemmas
 pub mod InputLemmas
 pub mod WrongLemmas

@@ -44,14 +44,14 @@ module _ {A : Type 0} (f : A → List ℕ) (xs : List A) (i : ℕ) (d : A) (h : 
 -- a refusal, from its pieces
 pub refusal_pieces : (words : Words) (digits : List ℕ) (refusal : Refusal) → digits ≡ digits_of words.number
     → text_of_words words ≡ refusal_words refusal
-    → codes "refused: " ++ (words.before.now ++ (digits ++ (words.behind.now ++ 10 ∷ []))) ≡ refusal_text refusal
+    → codes "refused: " ++ (words.before.now ++ (digits ++ (words.between.now ++ (words.behind.now ++ 10 ∷ [])))) ≡ refusal_text refusal
 refusal_pieces words digits refusal is text =
-    gathered words.before.now digits words.behind.now
-    ∙ ap (λ d. codes "refused: " ++ ((words.before.now ++ (d ++ words.behind.now)) ++ 10 ∷ [])) is
+    gathered words.before.now digits words.between.now words.behind.now
+    ∙ ap (λ d. codes "refused: " ++ ((words.before.now ++ (d ++ (words.between.now ++ words.behind.now))) ++ 10 ∷ [])) is
     ∙ ap (λ t. codes "refused: " ++ (t ++ 10 ∷ [])) text
   where
-    gathered : (a d b : List ℕ) → codes "refused: " ++ (a ++ (d ++ (b ++ 10 ∷ []))) ≡ codes "refused: " ++ ((a ++ (d ++ b)) ++ 10 ∷ [])
-    gathered a d b = ap (λ t. codes "refused: " ++ t) (simp append_assoc)
+    gathered : (a d b e : List ℕ) → codes "refused: " ++ (a ++ (d ++ (b ++ (e ++ 10 ∷ [])))) ≡ codes "refused: " ++ ((a ++ (d ++ (b ++ e))) ++ 10 ∷ [])
+    gathered a d b e = ap (λ t. codes "refused: " ++ t) (simp append_assoc)
 
 -- lines of single names
 lines_of : (names : List Text) (xs : List ℕ) → flat_map (tuple_line names) (singles xs) ≡ flat_map (λ n. tuple_line names (n ∷ [])) xs

@@ -1,18 +1,12 @@
 -- Where the text of an IRI ends, and that a name that stands next is one.
-use Rattle.std.proofs.Common.{◌≡◌, ℕ, ◌+◌, ◌<◌, Bool, true, false, not, cond, List, [], ◌∷◌, ◌++◌, length, take, position, suc, Option, Some, None, refl, sym, ap, ◌∙◌, subst, true≢false, arith, Bor, ◌≢◌, ◌≤◌, MatchOption, IfSome, IfNone}
+use Rattle.std.proofs.Common.{◌≡◌, ℕ, ◌+◌, ◌<◌, Bool, true, false, not, cond, List, [], ◌∷◌, ◌++◌, length, take, position, suc, Option, Some, None, refl, sym, ap, ◌∙◌, subst, true≢false, arith, Bor, ◌≢◌, MatchOption, IfSome, IfNone}
 use Rattle.std.specs.List.{list_all, position_or_len}
 use Rattle.std.proofs.lemmas.Bool.{and_parts, lt-ltb}
 use Rattle.std.proofs.lemmas.List.{length-append}
 use Rattle.std.proofs.lemmas.Option.{cond_some}
-use Rattle.dl_names.specs.NameList.{Text, names_after, has_name, place_of}
-use Rattle.dl_names.specs.declared.fault.NameFault.{NameFault}
-use Rattle.dl_names.specs.declared.fault.NameFault.TheVariants as names
-use Rattle.dl_names.specs.declared.fault.NameFault.TheVariants.{Full}
-use Rattle.dl_names.proofs.NameListLemmas.{names_after-new}
-use Rattle.dl_run.specs.declared.fault.Fault.TheVariants.{NotBuilt}
-use Rattle.dl_run.specs.Faults.{fault_of}
+use Rattle.dl_names.specs.NameList.{Text}
 use Rattle.dl_names.specs.Iris.{is_iri_byte, IsName}
-use Rattle.dl_run.specs.Tokens.{trimmed, WordThen, NameThen, PlaceThen}
+use Rattle.dl_run.specs.Tokens.{trimmed, WordThen, NameThen}
 
 -- where an IRI ends
 abbrev pub iri_len : List ℕ → ℕ
@@ -79,27 +73,3 @@ NameThen-unique {bytes} {text} {text'} {rest} {rest'} h h' =
     let stands = h.stands in
     let also = h'.stands in
     iri_one text text' rest rest' h.name.iri.characters h'.name.iri.characters (cc)
-
--- so a name that stands next is one
-pub name_one : (bytes text text' rest rest' : List ℕ) → trimmed bytes ≡ 60 ∷ text ++ 62 ∷ rest → IsName text
-    → trimmed bytes ≡ 60 ∷ text' ++ 62 ∷ rest' → IsName text' → (text ≡ text') × (rest ≡ rest')
-name_one bytes text text' rest rest' is name is' name' =
-    iri_one text text' rest rest' name.iri.characters name'.iri.characters (cc)
-
-pub PlaceThen-unique : {bytes : List ℕ} {names : List Text} {place place' : ℕ} {rest rest' : List ℕ} {after after' : List Text}
-    → PlaceThen bytes names place rest after → PlaceThen bytes names place' rest' after' → (place ≡ place') × (rest ≡ rest') × (after ≡ after')
-PlaceThen-unique {bytes} {names} {place} {place'} {rest} {rest'} {after} {after'} h h' =
-    let one = name_one bytes h.text h'.text rest rest' h.stands h.name h'.stands h'.name in
-    let same : after ≡ after' = h.named ∙ ap (names_after names) one.0 ∙ sym h'.named in
-    (h.at ∙ ap (place_of after) one.0 ∙ ap (λ l. place_of l h'.text) same ∙ sym h'.at, one.1, same)
-
--- a new name has no place among as many as may be
-pub no_room : (names : List Text) (text : Text) (after : List Text) (most : ℕ) → length names ≡ most → has_name names text ≡ false
-    → after ≡ names_after names text → length after ≤ most → ⊥
-no_room names text after most full new is fits =
-    omega (arith, full, fits, ap length (is ∙ names_after-new names text new), length-append names (text ∷ []))
-
--- a fault of the names is a fault of the file where there is no room
-pub full_fault : (fault : NameFault) → fault_of fault ≡ NotBuilt → fault ≡ Full
-full_fault Full h = refl
-full_fault names.NoMemory h = cc

@@ -6,28 +6,29 @@ use Rattle.dl_names.specs.declared.fault.NameFault.TheVariants as names
 use Rattle.dl_names.proofs.NameListLemmas.{names_after-new}
 use Rattle.std.proofs.lemmas.List.{length-append}
 use Rattle.dl_run.specs.Members.{members_of}
-use Rattle.dl_terms.specs.declared.axiom.Axiom.{Axiom}
 use Rattle.dl_terms.specs.declared.axiom.Fact.{Fact}
 use Rattle.dl_terms.specs.declared.query.Query.{Query}
+use Rattle.dl_owl.specs.declared.document.Document.{Document}
+use Rattle.dl_owl.specs.declared.fault.OwlFault.{OwlFault}
+use Rattle.dl_owl.specs.declared.fault.OwlFault.TheVariants as owl
+use Rattle.dl_owl.specs.Causes.{fault_of}
+use Rattle.dl_owl.specs.Expected.{prologue}
+use Rattle.dl_owl.specs.Reading.{ReadsValue, IsFault}
+use Rattle.dl_owl.proofs.TokenLists.{one_value, one_fault_read, no_fault_at_value}
 use Rattle.dl_triples.specs.declared.fault.TripleFault.{TripleFault}
 use Rattle.dl_triples.specs.declared.fault.TripleFault.TheVariants as triples
 use Rattle.dl_triples.specs.declared.reading.Triples.{Triples}
 use Rattle.dl_triples.specs.Reading.{IsFirstFault}
 use Rattle.dl_triples.proofs.ValueLemmas.{one_first, value_no_fault}
 use Rattle.dl_run.specs.Asked.{Gives, GivesPlace, IsNumbered, load_of}
-use Rattle.dl_run.specs.Inclusions.{inclusions_of}
-use Rattle.dl_run.specs.Input.{Load, IsFirstTooLong, AllFit, IsFittingOntology, AreRead, AreInput}
-use Rattle.dl_run.specs.Ontology.{IsOntology}
-use Rattle.dl_run.specs.declared.fault.Fault.{Fault}
-use Rattle.dl_run.specs.declared.fault.Fault.TheVariants as ontology
-use Rattle.dl_run.proofs.OntologyLemmas.{IsOntology-unique}
+use Rattle.dl_run.specs.Input.{Load, IsFirstTooLong, AllFit, AreRead, AreInput}
 use Rattle.dl_run.specs.Input.IsFirstTooLong.{ontology_is, data_is, query_is}
 use Rattle.dl_run.specs.Queries.{AsksFor, IsQuery}
 use Rattle.dl_run.specs.Served.{is_served}
 use Rattle.dl_run.specs.Stops.{stop_of_ontology, stop_of_data, stop_of_names}
-use Rattle.dl_run.specs.Wrong.{HasNoRoom, IsNoOntology, IsNotBuilt, IsFirstWrong}
-use Rattle.dl_run.specs.Wrong.IsNotBuilt.{ontology_form, query_form, load_form}
-use Rattle.dl_run.specs.Wrong.IsFirstWrong.{too_long, in_data, in_query, not_built}
+use Rattle.dl_run.specs.Wrong.{HasNoRoom, IsNotBuilt, IsFirstWrong}
+use Rattle.dl_run.specs.Wrong.IsNotBuilt.{query_form, load_form}
+use Rattle.dl_run.specs.Wrong.IsFirstWrong.{too_long, in_ontology, in_data, in_query, not_built}
 use Rattle.dl_run.specs.declared.answer.Asked.{Asked}
 use Rattle.dl_run.specs.declared.stop.InputFile.{InputFile}
 use Rattle.dl_run.specs.declared.stop.Refusal.{Refusal}
@@ -39,6 +40,16 @@ use Rattle.dl_run.proofs.QueryLemmas.{AsksFor-unique}
 
 same_refusal : {one two : Refusal} (a b : Stop) → a ≡ Refused one → b ≡ Refused two → a ≡ b → one ≡ two
 same_refusal a b x y z = cc
+
+-- an ontology has a value or one fault
+value_no_owl_fault : {o : List ℕ} {document : Document} {names : List Text} {fault : OwlFault} → ReadsValue o prologue [] document names
+    → IsFault o prologue [] fault → ⊥
+value_no_owl_fault {o} {document} {names} value first = no_fault_at_value o prologue [] document names first.cause first.at value first.read
+
+one_owl_fault : {o : List ℕ} {one two : OwlFault} → IsFault o prologue [] one → IsFault o prologue [] two → one ≡ two
+one_owl_fault {o} first second =
+    let same = one_fault_read o prologue [] first.cause second.cause first.at second.at first.read second.read in
+    first.is ∙ (λ i. fault_of (same.0 i) (same.1 i)) ∙ sym second.is
 
 module _ {o d q : List ℕ} where
   long_or_fit : {which : InputFile} → IsFirstTooLong o d q which → AllFit o d q → ⊥
@@ -58,19 +69,16 @@ module _ {o d q : List ℕ} where
   one_too_long (query_is f g a) (data_is h b) = absurd (omega (arith, b, g))
   one_too_long (query_is f g a) (query_is h i b) = refl
 
-  -- where ontology and data are read, the one has its form and the other has no fault
-  read_no_form : {axioms : List Axiom} {t : List Fact} {k : ℕ} {n : List Text} → AreRead o d q axioms t k n → IsNoOntology o → ⊥
-  read_no_form {axioms} read unread = unread.none axioms read.first read.is_ontology
-
-  read_no_first : {axioms other : List Axiom} {t : List Fact} {k : ℕ} {n m : List Text} {fault : TripleFault}
-      → AreRead o d q axioms t k n → IsFittingOntology o other m → IsFirstFault d m fault → ⊥
-  read_no_first {t = t} {k = k} {n = n} {fault = fault} read value first =
-      let same = (IsOntology-unique value.is_ontology read.is_ontology.is_ontology).1 in
+  -- where ontology and data are read, neither has a fault
+  read_no_first : {document other : Document} {t : List Fact} {k : ℕ} {n m : List Text} {fault : TripleFault}
+      → AreRead o d q document t k n → ReadsValue o prologue [] other m → IsFirstFault d m fault → ⊥
+  read_no_first {document} {other} {t} {k} {n} {m} {fault} read value first =
+      let same = (one_value o prologue [] other document m read.first value read.is_ontology).1 in
       value_no_fault d read.first t k n fault read.is_data (subst (λ l. IsFirstFault d l fault) same first)
 
   -- nor, where the query has its form and its name fits, is anything wrong with it
-  input_has_room : {load : Load} {asked : Query} {axioms : List Axiom} {t : List Fact} {k : ℕ} {n : List Text}
-      → AreInput o d q load asked → AreRead o d q axioms t k n → HasNoRoom q n → ⊥
+  input_has_room : {load : Load} {asked : Query} {document : Document} {t : List Fact} {k : ℕ} {n : List Text}
+      → AreInput o d q load asked → AreRead o d q document t k n → HasNoRoom q n → ⊥
   input_has_room {n = n} input read full =
       let same = (AreRead-unique input.are_read read).3 in
       let class = AsksFor-unique input.is_query.asks full.asks in
@@ -80,7 +88,6 @@ module _ {o d q : List ℕ} where
 
   -- what isn't built is no load that is served
   pub not_built_or_served : {load : Load} {asked : Query} → IsNotBuilt o d q → AreInput o d q load asked → is_served load ≡ true → ⊥
-  not_built_or_served (ontology_form fit unread) input served = read_no_form input.are_read unread
   not_built_or_served (query_form read none) input served = none input.is_query.class input.is_query.asks
   not_built_or_served (load_form again not) input served =
       true≢false (sym served ∙ ap is_served (AreInput-unique input again).0 ∙ not)
@@ -89,60 +96,84 @@ module _ {o d q : List ℕ} where
   pub wrong_or_served : {load : Load} {asked : Query} {refusal : Refusal} → IsFirstWrong o d q refusal → AreInput o d q load asked
       → is_served load ≡ true → ⊥
   wrong_or_served (too_long long) input served = long_or_fit long input.are_read.fit
+  wrong_or_served (in_ontology fit first is) input served = value_no_owl_fault input.are_read.is_ontology first
   wrong_or_served (in_data fit value first is) input served = read_no_first input.are_read value first
   wrong_or_served (in_query read full) input served = input_has_room input read full
   wrong_or_served (not_built not) input served = not_built_or_served not input served
 
   not_built_fits : IsNotBuilt o d q → AllFit o d q
-  not_built_fits (ontology_form fit unread) = fit
   not_built_fits (query_form read none) = read.fit
   not_built_fits (load_form input not) = input.are_read.fit
 
-  not_built_no_first : {other : List Axiom} {m : List Text} {fault : TripleFault} → IsNotBuilt o d q → IsFittingOntology o other m
-      → IsFirstFault d m fault → ⊥
-  not_built_no_first {other} {m} (ontology_form fit unread) value first = unread.none other m value
-  not_built_no_first {other} {m} (query_form read none) value first = read_no_first read value first
-  not_built_no_first {other} {m} (load_form input not) value first = read_no_first input.are_read value first
+  not_built_no_owl : {fault : OwlFault} → IsNotBuilt o d q → IsFault o prologue [] fault → ⊥
+  not_built_no_owl (query_form read none) first = value_no_owl_fault read.is_ontology first
+  not_built_no_owl (load_form input not) first = value_no_owl_fault input.are_read.is_ontology first
 
-  not_built_has_room : {axioms : List Axiom} {t : List Fact} {k : ℕ} {n : List Text} → IsNotBuilt o d q → AreRead o d q axioms t k n
+  not_built_no_first : {other : Document} {m : List Text} {fault : TripleFault} → IsNotBuilt o d q → ReadsValue o prologue [] other m
+      → IsFirstFault d m fault → ⊥
+  not_built_no_first (query_form read none) value first = read_no_first read value first
+  not_built_no_first (load_form input not) value first = read_no_first input.are_read value first
+
+  not_built_has_room : {document : Document} {t : List Fact} {k : ℕ} {n : List Text} → IsNotBuilt o d q → AreRead o d q document t k n
       → HasNoRoom q n → ⊥
-  not_built_has_room (ontology_form fit unread) again full = read_no_form again unread
   not_built_has_room (query_form read none) again full = none full.class full.asks
   not_built_has_room (load_form input not) again full = input_has_room input again full
 
   -- one thing is the first that is wrong
   pub one_wrong : {one two : Refusal} → IsFirstWrong o d q one → IsFirstWrong o d q two → one ≡ two
   one_wrong (too_long a) (too_long b) = ap TooLong (one_too_long a b)
+  one_wrong (too_long a) (in_ontology fit first is) = absurd (long_or_fit a fit)
   one_wrong (too_long a) (in_data fit value first is) = absurd (long_or_fit a fit)
   one_wrong (too_long a) (in_query read full) = absurd (long_or_fit a read.fit)
   one_wrong (too_long a) (not_built not) = absurd (long_or_fit a (not_built_fits not))
+  one_wrong (in_ontology fit first is) (too_long b) = absurd (long_or_fit b fit)
+  one_wrong (in_ontology fit first is) (in_ontology fit' first' is') =
+      same_refusal _ _ is is' (ap stop_of_ontology (one_owl_fault first first'))
+  one_wrong (in_ontology fit first is) (in_data fit' value first' is') = absurd (value_no_owl_fault value first)
+  one_wrong (in_ontology fit first is) (in_query read full) = absurd (value_no_owl_fault read.is_ontology first)
+  one_wrong (in_ontology fit first is) (not_built not) = absurd (not_built_no_owl not first)
   one_wrong (in_data fit value first is) (too_long b) = absurd (long_or_fit b fit)
-  one_wrong (in_data {names = m} {fault = f} fit value first is) (in_data {names = n} {fault = g} fit' value' first' is') =
-      let same = (IsOntology-unique value.is_ontology value'.is_ontology).1 in
+  one_wrong (in_data fit value first is) (in_ontology fit' first' is') = absurd (value_no_owl_fault value first')
+  one_wrong (in_data {document = document} {names = m} {fault = f} fit value first is) (in_data {document = other} {names = n} {fault = g} fit' value' first' is') =
+      let same = (one_value o prologue [] document other m n value value').1 in
       same_refusal _ _ is is' (ap stop_of_data (one_first d n f g (subst (λ l. IsFirstFault d l f) same first) first'))
   one_wrong (in_data fit value first is) (in_query read full) = absurd (read_no_first read value first)
   one_wrong (in_data fit value first is) (not_built not) = absurd (not_built_no_first not value first)
   one_wrong (in_query read full) (too_long b) = absurd (long_or_fit b read.fit)
+  one_wrong (in_query read full) (in_ontology fit first is) = absurd (value_no_owl_fault read.is_ontology first)
   one_wrong (in_query read full) (in_data fit value first is) = absurd (read_no_first read value first)
   one_wrong (in_query read full) (in_query read' full') = refl
   one_wrong (in_query read full) (not_built not) = absurd (not_built_has_room not read full)
   one_wrong (not_built not) (too_long b) = absurd (long_or_fit b (not_built_fits not))
+  one_wrong (not_built not) (in_ontology fit first is) = absurd (not_built_no_owl not first)
   one_wrong (not_built not) (in_data fit value first is) = absurd (not_built_no_first not value first)
   one_wrong (not_built not) (in_query read full) = absurd (not_built_has_room not read full)
   one_wrong (not_built not) (not_built also) = refl
 
 -- ---- what the readers' faults mean
 
--- an ontology of another form stops the command, and want of memory
+-- a fault of the ontology stops the command, and want of memory
 module _ (o d q : List ℕ) (fit : AllFit o d q) where
-  pub ontology_stops : (fault : Fault) (stop : Stop) (r : Result Asked Stop) → r ≡ Err stop → stop ≡ stop_of_ontology fault
-      → (fault ≡ ontology.NotBuilt → (axioms : List Axiom) (names : List Text) → IsOntology o [] axioms names → length names ≤ max_names → ⊥)
-      → Gives o d q r
-  ontology_stops ontology.NotBuilt stop r is made none =
-      rw (is, made) (not_built (ontology_form fit (record { none = λ axioms names value. none refl axioms names value.is_ontology value.names_fit })))
-  ontology_stops ontology.NoMemory stop r is made none = rw (is, made) tt
+  pub ontology_stops : (fault : OwlFault) (stop : Stop) (r : Result Asked Stop) → r ≡ Err stop → stop ≡ stop_of_ontology fault
+      → (fault ≢ owl.NoMemory → IsFault o prologue [] fault) → Gives o d q r
+  ontology_stops fault stop r is made told = rw (is, made) (by fault (stop_of_ontology fault) refl told)
+    where
+      by : (fault : OwlFault) (stop : Stop) → stop_of_ontology fault ≡ stop → (fault ≢ owl.NoMemory → IsFault o prologue [] fault)
+          → Gives o d q (Err stop)
+      by fault (Refused refusal) is told =
+          let first = told (λ none. let no : NoMemory ≡ Refused refusal = ap stop_of_ontology (sym none) ∙ is in cc) in
+          in_ontology fit first is
+      by (owl.Syntax n) ReadFault is told = cc
+      by (owl.TooDeep n) ReadFault is told = cc
+      by (owl.PrefixUnknown n) ReadFault is told = cc
+      by (owl.NotQl n what) ReadFault is told = cc
+      by (owl.LeftOut n what) ReadFault is told = cc
+      by (owl.Reserved n) ReadFault is told = cc
+      by (owl.TooManyNames n) ReadFault is told = cc
+      by owl.NoMemory ReadFault is told = cc
+      by fault NoMemory is told = tt
 
-  module _ (axioms : List Axiom) (first : List Text) (value : IsFittingOntology o axioms first) where
+  module _ (document : Document) (first : List Text) (value : ReadsValue o prologue [] document first) where
     pub data_stops : (fault : TripleFault) (stop : Stop) (r : Result Asked Stop) → r ≡ Err stop → stop ≡ stop_of_data fault
         → (fault ≢ triples.NoMemory → IsFirstFault d first fault) → Gives o d q r
     data_stops fault stop r is made told = rw (is, made) (by fault (stop_of_data fault) refl told)
@@ -159,7 +190,7 @@ module _ (o d q : List ℕ) (fit : AllFit o d q) where
         by triples.NoMemory ReadFault is told = cc
         by fault NoMemory is told = tt
 
-    module _ (listed : List Fact) (skipped : ℕ) (names : List Text) (read : AreRead o d q axioms listed skipped names) where
+    module _ (listed : List Fact) (skipped : ℕ) (names : List Text) (read : AreRead o d q document listed skipped names) where
       -- so does a query of another form, and one whose name has no place
       pub query_stops : (stop : Stop) (after : List Text) (r : Result Asked Stop) → r ≡ Err stop → GivesPlace q names after (Err stop) → Gives o d q r
       query_stops stop after r is gives = rw is (by stop gives)
@@ -199,11 +230,11 @@ place_given q before after class place asks named at =
 
 -- ---- what was read, numbered
 
-module _ (o d q : List ℕ) (inclusions : List (ℕ × ℕ)) (listed : Triples) (before met : List Text) (class : ℕ) (asked : Asked)
-    (read : AreRead o d q (inclusions_of inclusions) listed.facts listed.skipped before) (query : IsQuery q before (members_of class) met)
-    (fits : length met ≤ max_names) (numbered : IsNumbered met inclusions listed class asked) where
+module _ (o d q : List ℕ) (document : Document) (listed : Triples) (before met : List Text) (class : ℕ) (asked : Asked)
+    (read : AreRead o d q document listed.facts listed.skipped before) (query : IsQuery q before (members_of class) met)
+    (fits : length met ≤ max_names) (numbered : IsNumbered met document listed class asked) where
   pub gives_asked : is_served (load_of asked) ≡ true → Gives o d q (Ok asked)
-  gives_asked served = (input_from o d q inclusions listed before met class asked read query fits numbered, served)
+  gives_asked served = (input_from o d q document listed before met class asked read query fits numbered, served)
 
   pub gives_not_built : is_served (load_of asked) ≡ false → Gives o d q (Err (Refused NotBuilt))
-  gives_not_built not = not_built (load_form (input_from o d q inclusions listed before met class asked read query fits numbered) not)
+  gives_not_built not = not_built (load_form (input_from o d q document listed before met class asked read query fits numbered) not)

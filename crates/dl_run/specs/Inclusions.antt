@@ -1,5 +1,5 @@
 -- The inclusions between classes that axioms of classes say, as pairs with the class that is below first.
-use Rattle.std.specs.Prelude.{ℕ, List, [], ◌∷◌, if◌then◌else◌, slice_index_or, map, Bool, false, Option, Some, None}
+use Rattle.std.specs.Prelude.{ℕ, List, [], ◌∷◌, if◌then◌else◌, slice_index_or, Bool, false, Option, Some, None}
 use Rattle.std.specs.List.{Contains, flat_map}
 use Rattle.dl_terms.specs.Chain.{Chain}
 use Rattle.dl_terms.specs.declared.role.Basic.{Basic}
@@ -46,11 +46,3 @@ LeadsTo inclusions = Chain (Step inclusions)
 abbrev pub marked_individual : List Bool → Fact → Option ℕ
 marked_individual marks (Is class who) = if slice_index_or marks class false then Some who else None
 marked_individual marks (Link role from to) = None
-
--- that a class is below another
-abbrev pub inclusion : ℕ → ℕ → Axiom
-inclusion sub sup = SubClass (basic.Class sub) (part.Class sup ∷ [])
-
--- the axioms that the first class of each pair is below the second
-abbrev pub inclusions_of : List (ℕ × ℕ) → List Axiom
-inclusions_of pairs = map (λ p. inclusion p.0 p.1) pairs

@@ -1,5 +1,6 @@
 -- What the files of the command `answer` give: the names, the load and the query.
-use Rattle.std.specs.Prelude.{◌≡◌, ℕ, ◌<◌, ◌≤◌, false, List, [], length, map, slice_get, slice_index, Option, Some, None}
+use Rattle.std.specs.Prelude.{◌≡◌, ℕ, ◌<◌, ◌≤◌, false, List, [], ◌++◌, length, map, slice_get, slice_index, Option, Some, None}
+use Rattle.std.specs.Ordering.{nat_cmp}
 use Rattle.dl_io.specs.Files.{max_bytes}
 use Rattle.dl_names.specs.NameList.{Text, has_name, max_names}
 use Rattle.dl_names.specs.Frozen.{IsFrozen}
@@ -10,18 +11,22 @@ use Rattle.dl_terms.specs.Renamed.{renamed_axiom, renamed_fact, renamed_query}
 use Rattle.dl_terms.specs.declared.axiom.Axiom.{Axiom}
 use Rattle.dl_terms.specs.declared.axiom.Fact.{Fact}
 use Rattle.dl_terms.specs.declared.query.Query.{Query}
+use Rattle.dl_owl.specs.declared.document.Document.{Document}
+use Rattle.dl_owl.specs.Expected.{prologue}
+use Rattle.dl_owl.specs.Reading.{ReadsValue}
 use Rattle.dl_triples.specs.Reading.{IsValue}
 use Rattle.dl_run.specs.declared.stop.InputFile.{InputFile}
 use Rattle.dl_run.specs.declared.stop.InputFile.TheVariants as file
-use Rattle.dl_run.specs.Ontology.{IsOntology}
 use Rattle.dl_run.specs.Queries.{IsQuery}
 
--- the names in byte order, the sets of axioms and facts over their numbers, how many triples were skipped, and the
--- number of owl:Nothing, where it is a name
+-- the names in byte order, the sets of axioms and facts over their numbers and of the classes and roles that are
+-- declared, how many triples were skipped, and the number of owl:Nothing, where it is a name
 pub record Load : Type 0 where
   pub names : List Text
   pub axioms : List Axiom
   pub facts : List Fact
+  pub classes : List ℕ
+  pub roles : List ℕ
   pub skipped : ℕ
   pub nothing : Option ℕ
 
@@ -43,35 +48,32 @@ pub record AllFit (ontology facts query : List ℕ) : Type 0 where
   pub data_fits : length facts ≤ max_bytes
   pub query_fits : length query ≤ max_bytes
 
--- the bytes are an ontology of these axioms, and its names, in the order of their places, fit
-pub record IsFittingOntology (bytes : List ℕ) (axioms : List Axiom) (names : List Text) : Type 0 where
-  pub is_ontology : IsOntology bytes [] axioms names
-  pub names_fit : length names ≤ max_names
-
--- no file is too long, the ontology is of the form that is read so far, and the data has no fault: the axioms, the
--- facts of the data, how many triples are skipped, and the names, each at its place by first occurrence
-pub record AreRead (ontology facts query : List ℕ) (axioms : List Axiom) (triples : List Fact) (skipped : ℕ)
+-- no file is too long, and ontology and data have no fault: the document, the facts of the data, how many triples are
+-- skipped, and the names, each at its place by first occurrence
+pub record AreRead (ontology facts query : List ℕ) (document : Document) (triples : List Fact) (skipped : ℕ)
     (names : List Text) : Type 0 where
   pub fit : AllFit ontology facts query
   pub first : List Text
-  pub is_ontology : IsFittingOntology ontology axioms first
+  pub is_ontology : ReadsValue ontology prologue [] document first
   pub is_data : IsValue facts first triples skipped names
 
 -- the three files give this load and this query
 pub record AreInput (ontology facts query : List ℕ) (load : Load) (asked : Query) : Type 0 where
   -- what is read, by the places of names
-  pub axioms : List Axiom
+  pub document : Document
   pub triples : List Fact
   pub query_read : Query
   pub met_before : List Text
   pub met : List Text
-  pub are_read : AreRead ontology facts query axioms triples load.skipped met_before
+  pub are_read : AreRead ontology facts query document triples load.skipped met_before
   pub is_query : IsQuery query met_before query_read met
   pub names_fit : length met ≤ max_names
   -- the number of a name is its rank
   pub ranks : List ℕ
   pub is_frozen : IsFrozen met load.names ranks
-  pub is_axioms : IsSetOf axiom_cmp load.axioms (map (renamed_axiom (slice_index ranks)) axioms)
-  pub is_facts : IsSetOf fact_cmp load.facts (map (renamed_fact (slice_index ranks)) triples)
+  pub is_axioms : IsSetOf axiom_cmp load.axioms (map (renamed_axiom (slice_index ranks)) document.axioms)
+  pub is_facts : IsSetOf fact_cmp load.facts (map (renamed_fact (slice_index ranks)) (triples ++ document.facts))
+  pub is_classes : IsSetOf nat_cmp load.classes (map (slice_index ranks) document.classes)
+  pub is_roles : IsSetOf nat_cmp load.roles (map (slice_index ranks) document.roles)
   pub is_asked : asked ≡ renamed_query (slice_index ranks) query_read
   pub is_nothing : IsNumberOf load.names owl_nothing load.nothing

@@ -3,9 +3,6 @@ pub mod Refusals
 pub mod Texts
 pub mod Pieces
 pub mod Tokens
-pub mod Ontology
-pub mod Faults
-pub mod Ranked
 pub mod Inclusions
 pub mod Members
 pub mod Marking

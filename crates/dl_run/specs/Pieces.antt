@@ -10,4 +10,4 @@ digits_of None = []
 
 -- the words, one piece after another
 abbrev pub text_of_words : Words → List ℕ
-text_of_words words = words.before.now ++ (digits_of words.number ++ words.behind.now)
+text_of_words words = words.before.now ++ (digits_of words.number ++ (words.between.now ++ words.behind.now))

@@ -1,24 +1,8 @@
--- What the readers of ontologies and queries read at a time.
-use Rattle.std.specs.Prelude.{◌≡◌, ℕ, Bool, true, not, List, [], ◌∷◌, codes, IsTrue}
+-- What the reader of queries reads at a time.
+use Rattle.std.specs.Prelude.{◌≡◌, ℕ, Bool, true, not, List, [], ◌∷◌, IsTrue}
 use Rattle.dl_names.specs.NameList.{Text}
-use Rattle.dl_run.specs.Tokens.{WordThen, PlaceThen}
+use Rattle.dl_run.specs.Tokens.{WordThen}
 use Rattle.dl_run.specs.Queries.{is_variable_byte, IsVariable}
-
--- behind the word SubClassOf stand two classes in parentheses, and then the rest
-pub record ClassesThen (bytes : List ℕ) (names : List Text) (sub sup : ℕ) (rest : List ℕ) (after : List Text)
-    : Type 0 where
-  pub subject : List ℕ
-  pub object : List ℕ
-  pub closed : List ℕ
-  pub named : List Text
-  pub open_parenthesis : WordThen (codes "(") bytes subject
-  pub first : PlaceThen subject names sub object named
-  pub second : PlaceThen object named sup closed after
-  pub close_parenthesis : WordThen (codes ")") closed rest
-
--- no axiom stands next
-abbrev pub NoAxiomNext : List ℕ → Type 0
-NoAxiomNext bytes = (rest : List ℕ) → WordThen (codes "SubClassOf") bytes rest → ⊥
 
 -- no byte of a variable's name stands next
 abbrev pub ends_variable : List ℕ → Bool

@@ -1,10 +1,11 @@
 -- The texts of refusals, with their numbers; they are this project's own.
 use Rattle.std.specs.Prelude.{ℕ, List, ◌++◌, codes}
 use Rattle.std.specs.Fmt.{decimal}
+use Rattle.dl_owl.specs.Causes.{construct_words}
 use Rattle.dl_run.specs.declared.stop.InputFile.{InputFile}
 use Rattle.dl_run.specs.declared.stop.InputFile.TheVariants as file
 use Rattle.dl_run.specs.declared.stop.Refusal.{Refusal}
-use Rattle.dl_run.specs.declared.stop.Refusal.TheVariants.{TooLong, NoTriple, BlankNode, DataReserved, TooManyNames, NotBuilt, TooMany}
+use Rattle.dl_run.specs.declared.stop.Refusal.TheVariants.{TooLong, OntologySyntax, TooDeep, PrefixUnknown, NotQl, LeftOut, OntologyReserved, NoTriple, BlankNode, DataReserved, TooManyNames, NotBuilt, TooMany}
 use Rattle.dl_run.specs.Texts.{line}
 
 abbrev pub file_word : InputFile → List ℕ
@@ -12,9 +13,17 @@ file_word file.Ontology = codes "ontology"
 file_word file.Data = codes "data"
 file_word file.Query = codes "query"
 
--- what is refused, in words. Lines are counted from 1
+-- what is refused, in words. Bytes are counted from 0 and lines from 1
 abbrev pub refusal_words : Refusal → List ℕ
 refusal_words (TooLong which) = file_word which ++ codes " longer than 268435456 bytes"
+refusal_words (OntologySyntax at) = codes "ontology byte " ++ (decimal at ++ codes ": syntax")
+refusal_words (TooDeep at) = codes "ontology byte " ++ (decimal at ++ codes ": too deep")
+refusal_words (PrefixUnknown at) = codes "ontology byte " ++ (decimal at ++ codes ": unknown prefix")
+refusal_words (NotQl at what) =
+    codes "ontology byte " ++ (decimal at ++ (codes ": not in OWL 2 QL: " ++ construct_words what))
+refusal_words (LeftOut at what) =
+    codes "ontology byte " ++ (decimal at ++ (codes ": left out: " ++ construct_words what))
+refusal_words (OntologyReserved at) = codes "ontology byte " ++ (decimal at ++ codes ": reserved name")
 refusal_words (NoTriple n) = codes "data line " ++ (decimal n ++ codes ": not a triple")
 refusal_words (BlankNode n) = codes "data line " ++ (decimal n ++ codes ": blank node")
 refusal_words (DataReserved n) = codes "data line " ++ (decimal n ++ codes ": reserved name")

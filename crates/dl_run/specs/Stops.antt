@@ -3,14 +3,24 @@ use Rattle.dl_io.specs.declared.whole.FileFault.{FileFault}
 use Rattle.dl_io.specs.declared.whole.FileFault.TheVariants as file
 use Rattle.dl_names.specs.declared.fault.NameFault.{NameFault}
 use Rattle.dl_names.specs.declared.fault.NameFault.TheVariants as names
+use Rattle.dl_owl.specs.declared.fault.OwlFault.{OwlFault}
+use Rattle.dl_owl.specs.declared.fault.OwlFault.TheVariants as owl
 use Rattle.dl_triples.specs.declared.fault.TripleFault.{TripleFault}
 use Rattle.dl_triples.specs.declared.fault.TripleFault.TheVariants as triples
-use Rattle.dl_run.specs.declared.fault.Fault.{Fault}
-use Rattle.dl_run.specs.declared.fault.Fault.TheVariants as ontology
 use Rattle.dl_run.specs.declared.stop.InputFile.{InputFile}
 use Rattle.dl_run.specs.declared.stop.Refusal.TheVariants as refusal
 use Rattle.dl_run.specs.declared.stop.Stop.{Stop}
 use Rattle.dl_run.specs.declared.stop.Stop.TheVariants.{Refused, ReadFault, NoMemory}
+
+abbrev pub stop_of_ontology : OwlFault → Stop
+stop_of_ontology (owl.Syntax at) = Refused (refusal.OntologySyntax at)
+stop_of_ontology (owl.TooDeep at) = Refused (refusal.TooDeep at)
+stop_of_ontology (owl.PrefixUnknown at) = Refused (refusal.PrefixUnknown at)
+stop_of_ontology (owl.NotQl at what) = Refused (refusal.NotQl at what)
+stop_of_ontology (owl.LeftOut at what) = Refused (refusal.LeftOut at what)
+stop_of_ontology (owl.Reserved at) = Refused (refusal.OntologyReserved at)
+stop_of_ontology (owl.TooManyNames at) = Refused refusal.TooManyNames
+stop_of_ontology owl.NoMemory = NoMemory
 
 abbrev pub stop_of_data : TripleFault → Stop
 stop_of_data (triples.Line n) = Refused (refusal.NoTriple n)
@@ -27,7 +37,3 @@ abbrev pub stop_of_file : InputFile → FileFault → Stop
 stop_of_file which file.Failed = ReadFault
 stop_of_file which file.TooLong = Refused (refusal.TooLong which)
 stop_of_file which file.NoMemory = NoMemory
-
-abbrev pub stop_of_ontology : Fault → Stop
-stop_of_ontology ontology.NotBuilt = Refused refusal.NotBuilt
-stop_of_ontology ontology.NoMemory = NoMemory

@@ -1,6 +1,6 @@
--- Tokens of ontologies and queries, with white space between them.
+-- Tokens of queries, with white space between them.
 use Rattle.std.specs.Prelude.{◌≡◌, ℕ, Bool, ◌||◌, ◌==◌, List, [], ◌∷◌, ◌++◌, if◌then◌else◌}
-use Rattle.dl_names.specs.NameList.{Text, names_after, place_of}
+use Rattle.dl_names.specs.NameList.{Text}
 use Rattle.dl_names.specs.Iris.{IsName}
 
 -- white space: space, tab, carriage return and line feed
@@ -20,12 +20,3 @@ WordThen word bytes rest = trimmed bytes ≡ word ++ rest
 pub record NameThen (bytes : List ℕ) (text : Text) (rest : List ℕ) : Type 0 where
   pub stands : trimmed bytes ≡ 60 ∷ text ++ 62 ∷ rest
   pub name : IsName text
-
--- behind white space stands a name in < and >, and then the rest. The name is at this place of the names, which it may
--- be the last of
-pub record PlaceThen (bytes : List ℕ) (names : List Text) (place : ℕ) (rest : List ℕ) (after : List Text) : Type 0 where
-  pub text : Text
-  pub stands : trimmed bytes ≡ 60 ∷ text ++ 62 ∷ rest
-  pub name : IsName text
-  pub named : after ≡ names_after names text
-  pub at : place ≡ place_of after text

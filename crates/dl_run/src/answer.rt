@@ -6,13 +6,15 @@ ghost use Rattle.dl_terms.specs.Occurring.{axiom_names, fact_names};
 use dl_names::Names;
 use dl_terms::{Axiom, Fact, List};
 
-/// What the files of `answer` ask: the sets of axioms and facts over the numbers of names, how many triples were
-/// skipped, the number of `owl:Nothing`, where it is a name, and the class whose members are asked for.
+/// What the files of `answer` ask: the sets of axioms and facts over the numbers of names, the sets of the classes and
+/// roles that are declared, how many triples were skipped, the number of `owl:Nothing`, where it is a name, and the class whose members are asked for.
 #[derive(Drop)]
 pub(crate) struct Asked {
     pub names: Names,
     pub axioms: List<Axiom>,
     pub facts: List<Fact>,
+    pub classes: List<u32>,
+    pub roles: List<u32>,
     pub skipped: u64,
     pub nothing: Option<u32>,
     pub class: u32,

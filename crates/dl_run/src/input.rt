@@ -1,22 +1,19 @@
 // What the three files of `answer` give.
-ghost use Rattle.std.specs.Prelude.{◌≡◌, ◌<◌, length, map, IfOk};
+ghost use Rattle.std.specs.Prelude.{◌≡◌, ◌<◌, ◌++◌, length, IfOk};
 ghost use Rattle.std.specs.List.{All};
-ghost use Rattle.dl_terms.specs.Occurring.{fact_names};
+ghost use Rattle.dl_terms.specs.Occurring.{axiom_names, fact_names};
 ghost use Rattle.dl_run.specs.Asked.{load_of, Gives, GivesPlace, IsNumbered};
-ghost use Rattle.dl_run.specs.Inclusions.{inclusion, inclusions_of};
 ghost use Rattle.dl_run.specs.Input.{AllFit};
-ghost use Rattle.dl_run.specs.Ranked.{ranked_pair};
 ghost use Rattle.dl_run.specs.Served.{is_served};
 
 use crate::answer::Asked;
 use crate::inclusions::are_of_classes;
-use crate::ontology::read_ontology;
 use crate::question::class_asked;
-use crate::ranked::rank_pairs;
-use crate::sets::{axiom_set, fact_set};
+use crate::sets::{axiom_set, fact_set, number_set};
 use crate::stop::{Refusal, Stop};
-use dl_names::{NameSet, Ranks};
-use dl_terms::{Axiom, Basic, List, NoMemory, Part};
+use dl_names::NameSet;
+use dl_owl::{Document, read_ontology};
+use dl_terms::{Fact, List, NoMemory};
 use dl_triples::{Triples, read_triples};
 use std::alloc::Global;
 
@@ -35,10 +32,10 @@ pub(crate) fn input_of(
     ensures { Gives ontology.now facts.now query.now result }
 {
     let mut names = NameSet::new(alloc);
-    let inclusions = read_ontology(alloc, ontology, &mut names)?;
+    let document = read_ontology(alloc, ontology, &mut names)?;
     let triples = read_triples(alloc, facts, &mut names)?;
     let class = place_asked(query, &mut names)?;
-    let asked = numbered(names, inclusions, triples, class)?;
+    let asked = numbered(names, document, triples, class)?;
     if !is_served(&asked) {
         return Err(Stop::Refused(Refusal::NotBuilt));
     }
@@ -59,64 +56,54 @@ fn place_asked(query: &[u8], names: &mut NameSet) -> Result<u32, Stop>
 /// What was read by places, by the numbers of names.
 fn numbered(
     names: NameSet,
-    inclusions: Vec<(u32, u32)>,
+    document: Document,
     triples: Triples,
     class: u32,
 ) -> Result<Asked, NoMemory>
     requires class_placed { class < length names }
-    requires inclusions_placed { All (λ p.
-        (p.0 < length names) × (p.1 < length names)) inclusions.items }
+    requires axioms_placed { All (λ stated.
+        All (λ place. place < length names) (axiom_names stated)) document.axioms }
+    requires facts_placed { All (λ fact.
+        All (λ place. place < length names) (fact_names fact)) document.facts }
+    requires classes_placed { All (λ place. place < length names) document.classes }
+    requires roles_placed { All (λ place. place < length names) document.roles }
     requires triples_placed { All (λ fact.
         All (λ place. place < length names) (fact_names fact)) triples.facts }
-    ensures { IfOk result (λ asked. IsNumbered names inclusions.items triples class asked) }
+    ensures { IfOk result (λ asked. IsNumbered names document triples class asked) }
 {
     let (names, ranks) = names.freeze()?;
-    let axioms = ranked_axioms(&ranks, inclusions)?;
+    let mut document = document;
+    document.ranked(&ranks);
     let mut triples = triples;
     triples.ranked(&ranks);
+    let Document {
+        axioms,
+        facts,
+        classes,
+        roles,
+    } = document;
+    let facts = joined(triples.facts, &facts)?;
     Ok(Asked {
         class: ranks.of(class),
         axioms: axiom_set(axioms),
-        facts: fact_set(triples.facts),
+        facts: fact_set(facts),
+        classes: number_set(classes),
+        roles: number_set(roles),
         skipped: triples.skipped,
         nothing: names.number(OWL_NOTHING),
         names,
     })
 }
 
-/// The axioms of inclusions by places, by the numbers of names.
-fn ranked_axioms(ranks: &Ranks, inclusions: Vec<(u32, u32)>) -> Result<List<Axiom>, NoMemory>
-    requires { All (λ p. (p.0 < length ranks.now) × (p.1 < length ranks.now)) inclusions.items }
-    ensures { IfOk result (λ axioms.
-        axioms ≡ inclusions_of (map (ranked_pair ranks.now) inclusions.items)) }
+/// The facts of a list, and behind them those of another.
+fn joined(facts: List<Fact>, others: &List<Fact>) -> Result<List<Fact>, NoMemory>
+    ensures { IfOk result (λ both. both ≡ facts ++ others.now) }
 {
-    let mut inclusions = inclusions;
-    rank_pairs(ranks, inclusions.as_mut_slice());
-    axioms_of(&inclusions)
-}
-
-/// The axioms of inclusions.
-fn axioms_of(inclusions: &Vec<(u32, u32)>) -> Result<List<Axiom>, NoMemory>
-    ensures { IfOk result (λ axioms. axioms ≡ inclusions_of inclusions.now.items) }
-{
-    let alloc = *inclusions.allocator();
-    let mut axioms = List::new(alloc);
-    for (sub, sup) in inclusions {
-        axioms.push(inclusion(alloc, *sub, *sup)?)?;
+    let mut both = facts;
+    for fact in others.as_slice() {
+        both.push(*fact)?;
     }
-    Ok(axioms)
-}
-
-/// The axiom that a class is below another.
-fn inclusion(alloc: Global, sub: u32, sup: u32) -> Result<Axiom, NoMemory>
-    ensures { IfOk result (λ stated. stated ≡ inclusion sub sup) }
-{
-    let mut parts = List::new(alloc);
-    parts.push(Part::Class(sup))?;
-    Ok(Axiom::SubClass {
-        sub: Basic::Class(sub),
-        sup: parts,
-    })
+    Ok(both)
 }
 
 /// Whether the load is answered so far: its axioms are of classes alone, and `owl:Nothing` is no name.

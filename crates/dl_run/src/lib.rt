@@ -4,15 +4,12 @@
 mod answer;
 mod chain;
 mod command;
-mod fault;
 mod inclusions;
 mod input;
 mod laws;
 mod members;
-mod ontology;
 mod output;
 mod question;
-mod ranked;
 mod refusals;
 mod replies;
 mod scan;

@@ -74,7 +74,14 @@ fn put_refusal<S: Sink>(out: &mut GatheringSink<'_, S>, refusal: Refusal) -> Res
     let number = digits_of(&mut buffer, words.number);
     put_all(
         out,
-        &["refused: ", words.before, number, words.behind, "\n"],
+        &[
+            "refused: ",
+            words.before,
+            number,
+            words.between,
+            words.behind,
+            "\n",
+        ],
     )
 }
 

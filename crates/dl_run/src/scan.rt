@@ -1,12 +1,11 @@
-// Reading the tokens of ontologies and queries from the front of bytes: words, and names in < and >, with white space
+// Reading the tokens of queries from the front of bytes: words, and names in < and >, with white space
 // before them.
-ghost use Rattle.std.specs.Prelude.{◌≡◌, ◌≤◌, ◌<◌, ◌∷◌, ◌++◌, ℕ, List, [], length, IfOk, IfErr, OnOk, OnErr, IfSome, IfNone, not, position};
-ghost use Rattle.dl_names.specs.NameList.{Text, max_names};
+ghost use Rattle.std.specs.Prelude.{◌≡◌, ◌∷◌, ◌++◌, ℕ, List, IfSome, IfNone, not, position};
+ghost use Rattle.dl_names.specs.NameList.{Text};
 ghost use Rattle.dl_names.specs.Iris.{is_iri_byte, IsName};
-ghost use Rattle.dl_run.specs.Tokens.{is_blank, trimmed, WordThen, NameThen, PlaceThen};
+ghost use Rattle.dl_run.specs.Tokens.{is_blank, trimmed, WordThen, NameThen};
 
-use crate::fault::Fault;
-use dl_names::{NameSet, is_iri_byte, name_of};
+use dl_names::{is_iri_byte, name_of};
 
 /// What stands behind the white space at the front.
 pub(crate) fn trimmed(bytes: &[u8]) -> &[u8]
@@ -26,28 +25,6 @@ pub(crate) fn after_word<'a>(bytes: &'a [u8], word: &[u8]) -> Option<&'a [u8]>
     ensures none { IfNone result ((rest : List ℕ) → WordThen word.now bytes.now rest → ⊥) }
 {
     trimmed(bytes).strip_prefix(word)
-}
-
-/// The same, where the bytes aren't of their form unless the word stands there.
-pub(crate) fn word_then<'a>(bytes: &'a [u8], word: &[u8]) -> Result<&'a [u8], Fault>
-    ensures ok { IfOk result (λ rest. WordThen word.now bytes.now rest.now) }
-    ensures none { IfErr result (λ _. (rest : List ℕ) → WordThen word.now bytes.now rest → ⊥) }
-    ensures cause { IfErr result (λ fault. fault ≡ Fault.NotBuilt) }
-{
-    after_word(bytes, word).ok_or(Fault::NotBuilt)
-}
-
-/// That no more than white space stands there.
-pub(crate) fn nothing_then(bytes: &[u8]) -> Result<(), Fault>
-    ensures ok { OnOk result (trimmed bytes.now ≡ []) }
-    ensures none { OnErr result (trimmed bytes.now ≡ [] → ⊥) }
-    ensures cause { IfErr result (λ fault. fault ≡ Fault.NotBuilt) }
-{
-    if trimmed(bytes).is_empty() {
-        Ok(())
-    } else {
-        Err(Fault::NotBuilt)
-    }
 }
 
 /// The IRI of a name up to the `>` that closes it, and what stands behind that.
@@ -71,24 +48,6 @@ pub(crate) fn name_then(bytes: &[u8]) -> Option<(&str, &[u8])>
     ensures none { IfNone result ((text : Text) (rest : List ℕ) → NameThen bytes.now text rest → ⊥) }
 {
     iri_then(after_word(bytes, b"<")?)
-}
-
-/// The place of the next name, which is added to the names, and what stands behind it.
-pub(crate) fn place_of_next<'a>(
-    bytes: &'a [u8],
-    names: &mut NameSet,
-) -> Result<(u32, &'a [u8]), Fault>
-    ensures ok { IfOk result (λ found. PlaceThen bytes.now names.old found.0 found.1.now names.new) }
-    ensures within { IfOk result (λ found. found.0 < length names.new) }
-    ensures not_built { (result ≡ Err Fault.NotBuilt) →
-        (place : ℕ) (rest : List ℕ) (after : List Text) →
-        PlaceThen bytes.now names.old place rest after → length after ≤ max_names → ⊥ }
-{
-    let Some((text, rest)) = name_then(bytes) else {
-        return Err(Fault::NotBuilt);
-    };
-    let place = names.add(text)?;
-    Ok((place, rest))
 }
 
 /// Where the text of an IRI ends: the first byte that is none of its characters.

@@ -1,4 +1,5 @@
-// Sets of axioms and of facts.
+// Sets of axioms, of facts and of numbers.
+ghost use Rattle.std.specs.Ordering.{nat_cmp};
 ghost use Rattle.dl_terms.specs.Order.{axiom_cmp, fact_cmp};
 ghost use Rattle.dl_terms.specs.Sets.{IsSetOf};
 
@@ -18,4 +19,11 @@ pub(crate) fn fact_set(facts: List<Fact>) -> List<Fact>
 {
     facts_are_ordered();
     set_of(facts)
+}
+
+/// The set of numbers.
+pub(crate) fn number_set(numbers: List<u32>) -> List<u32>
+    ensures { IsSetOf nat_cmp result numbers }
+{
+    set_of(numbers)
 }

@@ -3,8 +3,8 @@ ghost use Rattle.std.specs.Prelude.{◌≡◌};
 ghost use Rattle.dl_run.specs.Stops.{stop_of_ontology, stop_of_data, stop_of_names};
 ghost use Rattle.dl_run.specs.declared.stop.Stop.TheVariants.{NoMemory};
 
-use crate::fault::Fault;
 use dl_names::NameFault;
+use dl_owl::{Construct, OwlFault};
 use dl_triples::TripleFault;
 use std::alloc::AllocError;
 
@@ -16,11 +16,23 @@ pub(crate) enum InputFile {
     Query,
 }
 
-/// Why an input is refused. Lines are counted from 1.
+/// Why an input is refused. Bytes of the ontology are counted from 0, lines of the data from 1.
 #[derive(Clone, Copy)]
 pub(crate) enum Refusal {
     /// A file is too long.
     TooLong { file: InputFile },
+    /// A byte of the ontology at which no token begins, or one that fits no rule of the grammar.
+    OntologySyntax { at: usize },
+    /// A parenthesis of the ontology inside as many open ones as there may be.
+    TooDeep { at: usize },
+    /// A name of the ontology whose prefix isn't declared.
+    PrefixUnknown { at: usize },
+    /// A construct of the ontology that isn't in OWL 2 QL.
+    NotQl { at: usize, what: Construct },
+    /// A construct of the ontology that is left out.
+    LeftOut { at: usize, what: Construct },
+    /// A reserved name in the ontology.
+    OntologyReserved { at: usize },
     /// A line of the data that is no triple.
     NoTriple { line: u64 },
     /// A line of the data with a blank node.
@@ -46,14 +58,20 @@ pub(crate) enum Stop {
     NoMemory,
 }
 
-impl From<Fault> for Stop {
+impl From<OwlFault> for Stop {
     ghost from_gives = { λ fault made. made ≡ stop_of_ontology fault };
 
-    fn from(fault: Fault) -> Stop {
-        match fault {
-            Fault::NotBuilt => Stop::Refused(Refusal::NotBuilt),
-            Fault::NoMemory => Stop::NoMemory,
-        }
+    fn from(fault: OwlFault) -> Stop {
+        Stop::Refused(match fault {
+            OwlFault::Syntax { at } => Refusal::OntologySyntax { at },
+            OwlFault::TooDeep { at } => Refusal::TooDeep { at },
+            OwlFault::PrefixUnknown { at } => Refusal::PrefixUnknown { at },
+            OwlFault::NotQl { at, what } => Refusal::NotQl { at, what },
+            OwlFault::LeftOut { at, what } => Refusal::LeftOut { at, what },
+            OwlFault::Reserved { at } => Refusal::OntologyReserved { at },
+            OwlFault::TooManyNames { .. } => Refusal::TooManyNames,
+            OwlFault::NoMemory => return Stop::NoMemory,
+        })
     }
 }
 

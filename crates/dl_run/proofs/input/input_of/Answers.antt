@@ -1,27 +1,28 @@
-use Rattle.std.proofs.Common.{sym, ap, arith, Err, string_bytes}
+use Rattle.std.proofs.Common.{sym, arith}
 use Rattle.std.proofs.lemmas.Result.{err_from_is_err_and}
-use Rattle.dl_terms.specs.Occurring.{fact_names}
-use Rattle.dl_run.proofs.InputLemmas.{fits_from_keys, placed_later, pairs_later, data_grows, query_grows}
+use Rattle.dl_terms.specs.Occurring.{axiom_names, fact_names}
+use Rattle.dl_run.proofs.InputLemmas.{placed_later, numbers_later, data_grows, query_grows}
 use Rattle.dl_run.proofs.WrongLemmas.{ontology_stops, data_stops, query_stops, memory_stops, gives_asked, gives_not_built}
 use Rattle.dl_run.proofs.input.input_of.Goals as goal
 
-pub returns-in_err-inclusions : goal.returns-in_err-inclusions
-returns-in_err-inclusions c =
+pub returns-in_err-document : goal.returns-in_err-document
+returns-in_err-document c =
     let p = err_from_is_err_and c.from_residual.result c.from_residual.ensures.1 in
     ontology_stops c.args.ontology.now c.args.facts.now c.args.query.now c.requires _ p.0 c.from_residual.result p.1 p.2
-    (λ is. rw c.new-names.ensures at (c.in_err-inclusions.ensures.not_built (ap Err is)))
+    (rw c.new-names.ensures at c.in_err-document.ensures.fault)
 
 pub returns-in_err-triples : goal.returns-in_err-triples
 returns-in_err-triples c =
     let p = err_from_is_err_and c.from_residual-in_err-triples.result c.from_residual-in_err-triples.ensures.1 in
-    data_stops c.args.ontology.now c.args.facts.now c.args.query.now c.requires _ _ (record { is_ontology = rw c.new-names.ensures at c.in_ok-inclusions.ensures.ok; names_fit = fits_from_keys string_bytes c.names.inside.texts.keys _ c.names.view_is c.names.invariant.1 })
+    data_stops c.args.ontology.now c.args.facts.now c.args.query.now c.requires _ _ (rw c.new-names.ensures at c.in_ok-document.ensures.value)
     _ p.0 c.from_residual-in_err-triples.result p.1 p.2 c.in_err-triples.ensures.fault
 
 pub returns-in_err-class : goal.returns-in_err-class
 returns-in_err-class c =
     let p = err_from_is_err_and c.from_residual-in_err-class.result c.from_residual-in_err-class.ensures.1 in
-    query_stops c.args.ontology.now c.args.facts.now c.args.query.now c.requires _ _ (record { is_ontology = rw c.new-names.ensures at c.in_ok-inclusions.ensures.ok; names_fit = fits_from_keys string_bytes c.names.inside.texts.keys _ c.names.view_is c.names.invariant.1 }) _ _ _
-    (record { fit = c.requires; first = _; is_ontology = record { is_ontology = rw c.new-names.ensures at c.in_ok-inclusions.ensures.ok; names_fit = fits_from_keys string_bytes c.names.inside.texts.keys _ c.names.view_is c.names.invariant.1 }; is_data = c.in_ok-triples.ensures.value })
+    let value = rw c.new-names.ensures at c.in_ok-document.ensures.value in
+    query_stops c.args.ontology.now c.args.facts.now c.args.query.now c.requires _ _ value _ _ _
+    (record { fit = c.requires; first = _; is_ontology = value; is_data = c.in_ok-triples.ensures.value })
     p.0 c.place_asked.new.names c.from_residual-in_err-class.result p.1 (rw p.2 c.in_err-class.ensures)
 
 pub returns-in_err-asked : goal.returns-in_err-asked
@@ -32,9 +33,21 @@ returns-in_err-asked c =
 pub numbered-requires-clause-class_placed : goal.numbered-requires-clause-class_placed
 numbered-requires-clause-class_placed c = c.in_ok-class.ensures.2
 
-pub numbered-requires-clause-inclusions_placed : goal.numbered-requires-clause-inclusions_placed
-numbered-requires-clause-inclusions_placed c =
-    pairs_later _ _ _ (omega (arith, data_grows c.in_ok-triples.ensures.value, query_grows c.in_ok-class.ensures.0)) c.in_ok-inclusions.ensures.places
+pub numbered-requires-clause-axioms_placed : goal.numbered-requires-clause-axioms_placed
+numbered-requires-clause-axioms_placed c =
+    placed_later axiom_names _ _ _ (omega (arith, data_grows c.in_ok-triples.ensures.value, query_grows c.in_ok-class.ensures.0)) c.in_ok-document.ensures.axiom_places
+
+pub numbered-requires-clause-facts_placed : goal.numbered-requires-clause-facts_placed
+numbered-requires-clause-facts_placed c =
+    placed_later fact_names _ _ _ (omega (arith, data_grows c.in_ok-triples.ensures.value, query_grows c.in_ok-class.ensures.0)) c.in_ok-document.ensures.fact_places
+
+pub numbered-requires-clause-classes_placed : goal.numbered-requires-clause-classes_placed
+numbered-requires-clause-classes_placed c =
+    numbers_later _ _ _ (omega (arith, data_grows c.in_ok-triples.ensures.value, query_grows c.in_ok-class.ensures.0)) c.in_ok-document.ensures.class_places
+
+pub numbered-requires-clause-roles_placed : goal.numbered-requires-clause-roles_placed
+numbered-requires-clause-roles_placed c =
+    numbers_later _ _ _ (omega (arith, data_grows c.in_ok-triples.ensures.value, query_grows c.in_ok-class.ensures.0)) c.in_ok-document.ensures.role_places
 
 pub numbered-requires-clause-triples_placed : goal.numbered-requires-clause-triples_placed
 numbered-requires-clause-triples_placed c =
@@ -42,12 +55,12 @@ numbered-requires-clause-triples_placed c =
 
 pub returns-then-not-is_served : goal.returns-then-not-is_served
 returns-then-not-is_served c =
-    gives_not_built c.args.ontology.now c.args.facts.now c.args.query.now c.in_ok-inclusions.inclusions.items c.in_ok-triples.triples _ _ c.in_ok-class.class c.in_ok-asked.asked
-    (record { fit = c.requires; first = _; is_ontology = record { is_ontology = rw c.new-names.ensures at c.in_ok-inclusions.ensures.ok; names_fit = fits_from_keys string_bytes c.names.inside.texts.keys _ c.names.view_is c.names.invariant.1 }; is_data = c.in_ok-triples.ensures.value })
+    gives_not_built c.args.ontology.now c.args.facts.now c.args.query.now c.in_ok-document.document c.in_ok-triples.triples _ _ c.in_ok-class.class c.in_ok-asked.asked
+    (record { fit = c.requires; first = _; is_ontology = rw c.new-names.ensures at c.in_ok-document.ensures.value; is_data = c.in_ok-triples.ensures.value })
     c.in_ok-class.ensures.0 c.in_ok-class.ensures.1 c.in_ok-asked.ensures (sym c.if-not-is_served.ensures)
 
 pub returns : goal.returns
 returns c =
-    gives_asked c.args.ontology.now c.args.facts.now c.args.query.now c.in_ok-inclusions.inclusions.items c.in_ok-triples.triples _ _ c.in_ok-class.class c.in_ok-asked.asked
-    (record { fit = c.requires; first = _; is_ontology = record { is_ontology = rw c.new-names.ensures at c.in_ok-inclusions.ensures.ok; names_fit = fits_from_keys string_bytes c.names.inside.texts.keys _ c.names.view_is c.names.invariant.1 }; is_data = c.in_ok-triples.ensures.value })
+    gives_asked c.args.ontology.now c.args.facts.now c.args.query.now c.in_ok-document.document c.in_ok-triples.triples _ _ c.in_ok-class.class c.in_ok-asked.asked
+    (record { fit = c.requires; first = _; is_ontology = rw c.new-names.ensures at c.in_ok-document.ensures.value; is_data = c.in_ok-triples.ensures.value })
     c.in_ok-class.ensures.0 c.in_ok-class.ensures.1 c.in_ok-asked.ensures (sym c.if-not-is_served.ensures)
