@@ -8,10 +8,10 @@ use Rattle.dl_terms.specs.declared.query.Query.{Query}
 use Rattle.dl_terms.proofs.AnswerLemmas.{IsReply-unique}
 use Rattle.dl_run.specs.Answered.{status_of, text_of, RepliesTo}
 use Rattle.dl_run.specs.Asked.{Gives}
-use Rattle.dl_run.specs.Defined.{IsRefused, AnswerPrints, AnswerOf, Prints}
+use Rattle.dl_run.specs.Defined.{IsRefused, AnswerPrints, AnswerOf, Prints, IsUnbuilt}
 use Rattle.dl_run.specs.Defined.IsRefused.{wrong, over_limit}
 use Rattle.dl_run.specs.Defined.AnswerPrints.{refused, answers}
-use Rattle.dl_run.specs.Defined.Prints.{usage, by_answer}
+use Rattle.dl_run.specs.Defined.Prints.{usage, unbuilt, by_answer}
 use Rattle.dl_run.specs.Ending.{Says}
 use Rattle.dl_run.specs.Ending.Says.{done, refused as stopped, read_fault, no_memory}
 use Rattle.dl_run.specs.Files.{IsFileStop}
@@ -20,7 +20,6 @@ use Rattle.dl_run.specs.Output.{facts_line, answers_text}
 use Rattle.dl_run.specs.Refusals.{refusal_text}
 use Rattle.dl_run.specs.Served.{is_served}
 use Rattle.dl_run.specs.Words.{Form, answer, HasForm, AskFor}
-use Rattle.dl_run.specs.Words.HasForm.{is_answer}
 use Rattle.dl_run.specs.Wrong.{IsFirstWrong}
 use Rattle.dl_run.specs.Wrong.IsFirstWrong.{too_long}
 use Rattle.dl_run.specs.declared.answer.Answers.{Answers}
@@ -33,6 +32,7 @@ use Rattle.dl_run.specs.declared.stop.Stop.{Stop}
 use Rattle.dl_run.specs.declared.stop.Stop.TheVariants as stops
 use Rattle.dl_run.proofs.EndingLemmas.{if_some}
 use Rattle.dl_run.proofs.InputLemmas.{AreInput-unique}
+use Rattle.dl_run.proofs.WordLemmas.{form_unique}
 use Rattle.dl_run.proofs.WrongLemmas.{wrong_or_served, one_wrong}
 
 -- what holds of the bytes that were read holds of the files, where the library tells them
@@ -88,17 +88,20 @@ one_output (answers {load = load} {tuples = tuples} input served reply) (answers
           ∙ ap (λ t. facts_line (length other.facts) other.skipped ++ answers_text other.names t) (same_tuples input again reply more),
     )
 
--- words have one form at most
-form_unique : {words : List (List ℕ)} {form other : Form} → HasForm words form → HasForm words other → form ≡ other
-form_unique (is_answer a b c) (is_answer d e f) = refl
+-- a form that isn't built is not that of answer
+not_answer : (words : List (List ℕ)) (form : Form) (ontology facts query : List ℕ) (limit : ℕ) → HasForm words form → IsUnbuilt form
+    → HasForm words (answer ontology facts query limit) → ⊥
+not_answer words form ontology facts query limit other not has =
+    subst IsUnbuilt (form_unique words form (answer ontology facts query limit) other has) not
 
 module _ (words : List (List ℕ)) (ontology facts query : List ℕ) (limit : ℕ) (has : HasForm words (answer ontology facts query limit)) where
   -- what is printed for the words is what is printed for their form
   pub for_form : (file_of : List ℕ → List ℕ) {status : Status} {text : List ℕ} → Prints words file_of status text
       → AnswerOf ontology facts query limit file_of status text
-  for_form file_of (usage none) = absurd (none _ has)
+  for_form file_of (usage none) = absurd (none (answer ontology facts query limit) has)
+  for_form file_of (unbuilt form other not) = absurd (not_answer words form ontology facts query limit other not has)
   for_form file_of {status} {text} (by_answer {ontology = o} {facts = d} {query = q} {limit = l} other h) =
-      let same : answer o d q l ≡ answer ontology facts query limit = form_unique other has in
+      let same : answer o d q l ≡ answer ontology facts query limit = form_unique words (answer o d q l) (answer ontology facts query limit) other has in
       let a : o ≡ ontology = cc in
       let b : d ≡ facts = cc in
       let c : q ≡ query = cc in
@@ -119,8 +122,13 @@ module _ (words : List (List ℕ)) (ontology facts query : List ℕ) (limit : �
 pub one_output_of_words : (words : List (List ℕ)) (file_of : List ℕ → List ℕ) {status other : Status} {text also : List ℕ}
     → Prints words file_of status text → Prints words file_of other also → (status ≡ other) × (text ≡ also)
 one_output_of_words words file_of (usage none) (usage still) = (refl, refl)
-one_output_of_words words file_of (usage none) (by_answer has h) = absurd (none _ has)
-one_output_of_words words file_of (by_answer has h) (usage none) = absurd (none _ has)
+one_output_of_words words file_of (usage none) (unbuilt form has not) = absurd (none form has)
+one_output_of_words words file_of (usage none) (by_answer {ontology = o} {facts = d} {query = q} {limit = l} has h) = absurd (none (answer o d q l) has)
+one_output_of_words words file_of (unbuilt form has not) (usage none) = absurd (none form has)
+one_output_of_words words file_of (unbuilt form has not) (unbuilt form' other also) = (refl, refl)
+one_output_of_words words file_of (unbuilt form has not) (by_answer {ontology = o} {facts = d} {query = q} {limit = l} other h) = absurd (not_answer words form o d q l has not other)
+one_output_of_words words file_of (by_answer {ontology = o} {facts = d} {query = q} {limit = l} has h) (usage none) = absurd (none (answer o d q l) has)
+one_output_of_words words file_of (by_answer {ontology = o} {facts = d} {query = q} {limit = l} has h) (unbuilt form other not) = absurd (not_answer words form o d q l other not has)
 one_output_of_words words file_of (by_answer {ontology = o} {facts = d} {query = q} {limit = l} has h) (by_answer other k) =
     one_output h (for_form words o d q l has file_of (by_answer other k))
 

@@ -4,6 +4,7 @@ pub mod ChainLemmas
 pub mod ClassLemmas
 pub mod BelowLemmas
 pub mod MemberLemmas
+pub mod OptionLemmas
 pub mod WordLemmas
 pub mod ScanLemmas
 pub mod TokenLemmas

@@ -2,7 +2,7 @@
 use Rattle.std.specs.Prelude.{◌≡◌, ℕ, true, List, ◌++◌, length}
 use Rattle.dl_terms.specs.Reply.{IsReply, found, too_many}
 use Rattle.dl_terms.specs.declared.query.Query.{Query}
-use Rattle.dl_run.specs.Words.{answer, HasForm, HasNoForm}
+use Rattle.dl_run.specs.Words.{Form, answer, run, gen, HasForm, HasNoForm}
 use Rattle.dl_run.specs.Input.{Load, AreInput}
 use Rattle.dl_run.specs.Served.{is_served}
 use Rattle.dl_run.specs.Wrong.{IsFirstWrong}
@@ -10,7 +10,7 @@ use Rattle.dl_run.specs.Output.{facts_line, answers_text}
 use Rattle.dl_run.specs.declared.status.Status.{Status}
 use Rattle.dl_run.specs.declared.status.Status.TheVariants as status
 use Rattle.dl_run.specs.declared.stop.Refusal.{Refusal}
-use Rattle.dl_run.specs.declared.stop.Refusal.TheVariants.{TooMany}
+use Rattle.dl_run.specs.declared.stop.Refusal.TheVariants.{TooMany, NotBuilt}
 use Rattle.dl_run.specs.Refusals.{refusal_text}
 use Rattle.dl_run.specs.Texts.{usage_text}
 
@@ -34,9 +34,17 @@ pub data AnswerPrints (ontology facts query : List ℕ) (limit : ℕ) : Status �
 abbrev pub AnswerOf : (ontology facts query : List ℕ) (limit : ℕ) → (List ℕ → List ℕ) → Status → List ℕ → Type 0
 AnswerOf ontology facts query limit file_of = AnswerPrints (file_of ontology) (file_of facts) (file_of query) limit
 
+-- the forms that aren't built yet
+abbrev pub IsUnbuilt : Form → Type 0
+IsUnbuilt (answer ontology facts query limit) = ⊥
+IsUnbuilt (run ontology facts streams shards) = Unit {0}
+IsUnbuilt (gen number size) = Unit {0}
+
 -- what the program prints for its words and the bytes of each file name
 pub data Prints (words : List (List ℕ)) (file_of : List ℕ → List ℕ) : Status → List ℕ → Type 0 where
   usage : HasNoForm words → Prints words file_of status.Usage usage_text
+  unbuilt : (form : Form) → HasForm words form → IsUnbuilt form
+      → Prints words file_of status.Refused (refusal_text NotBuilt)
   by_answer : {ontology facts query : List ℕ} {limit : ℕ} {status : Status} {text : List ℕ}
       → HasForm words (answer ontology facts query limit) → AnswerOf ontology facts query limit file_of status text
       → Prints words file_of status text

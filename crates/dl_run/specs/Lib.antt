@@ -16,6 +16,7 @@ pub mod Output
 pub mod Defined
 pub mod Ending
 pub mod Answered
+pub mod Options
 pub mod Forms
 pub mod Stops
 pub mod Asked

@@ -18,7 +18,7 @@ use crate::output::print_output;
 use crate::replies::answers_for;
 use crate::status::Status;
 use crate::stop::{InputFile, Refusal, Stop};
-use crate::texts::{NO_MEMORY, USAGE};
+use crate::texts::{NO_MEMORY, NOT_BUILT, USAGE};
 use crate::words::{AnswerWords, Form, form_of};
 use dl_io::{Failed, FileFault, GATHERED, GatheringSink, Library, Sink, read_whole, write_all};
 use std::alloc::Global;
@@ -189,7 +189,8 @@ pub fn answer_command<L: Library, S: Sink>(
 
 /// The program: the words after its name, the files and the output. It answers `Usage` exactly where
 /// the words have no written form, and then takes no memory; the text of the written forms is written.
-/// Where they have one, it ends as that command does. `WriteFault` overrides every other status.
+/// Where they have the form of `answer`, it ends as that command does; `run` and `gen` are refused as not built, and no
+/// file is read. `WriteFault` overrides every other status.
 pub fn quest<L: Library, S: Sink>(
     alloc: Global,
     words: &[String],
@@ -227,6 +228,8 @@ pub fn quest<L: Library, S: Sink>(
             answer.query,
             answer.limit,
         ),
+        Form::Run(_) => write_text(sink, Status::Refused, NOT_BUILT),
+        Form::Gen(_) => write_text(sink, Status::Refused, NOT_BUILT),
         Form::Usage => write_text(sink, Status::Usage, USAGE),
     }
 }

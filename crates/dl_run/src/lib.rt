@@ -20,5 +20,6 @@ mod texts;
 mod words;
 
 pub use command::{answer_command, quest, without_memory};
-pub use laws::outputs_are_determined;
+pub use laws::{outputs_are_determined, words_have_one_form_at_most};
 pub use status::Status;
+pub use words::{AnswerWords, Form, GenWords, RunWords, form_of};

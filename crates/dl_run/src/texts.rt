@@ -6,6 +6,9 @@ pub const USAGE: &str = "usage: quest answer ONTOLOGY DATA QUERY [--limit N]
        quest gen NUMBER SIZE
 ";
 
+/// The words have a form that isn't built yet.
+pub const NOT_BUILT: &str = "refused: not built\n";
+
 /// A file could not be read.
 pub const READ_FAULT: &str = "read fault\n";
 
