@@ -25,6 +25,8 @@ mod query;
 #[cfg(test)]
 mod reach;
 #[cfg(test)]
+mod refusals;
+#[cfg(test)]
 mod run;
 #[cfg(test)]
 mod terms;

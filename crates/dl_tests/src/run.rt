@@ -1,4 +1,4 @@
-// The commands over files in memory: worked examples, refusals, the order of files and the limit.
+// The commands over files in memory: worked examples, the order of files and the limit.
 ghost use Rattle.std.specs.Prelude.{None};
 
 use dl_io::{Failed, Library, SafeLibrary, SafeSink, ShortLibrary, ShortSink, names_differ};
@@ -103,6 +103,46 @@ const LITERAL_SKIPPED: Example = Example {
     output: "facts 1 skipped 1\nanswers 1\n(<a>)\n",
 };
 
+/// Facts of ontology and data, of which one stands in both.
+const FACTS_OF_BOTH: Example = Example {
+    words: ANSWER,
+    files: &[
+        (
+            "ontology.ofn",
+            "Ontology(Declaration(Class(<C>)) ClassAssertion(<A> <a>)
+ObjectPropertyAssertion(ObjectInverseOf(<P>) <a> <b>) SubObjectPropertyOf(<Q> owl:topObjectProperty))",
+        ),
+        (
+            "data.nt",
+            "<b> <P> <a> .
+<c> <http://www.w3.org/1999/02/22-rdf-syntax-ns#type> <A> .
+",
+        ),
+        ("query.q", "q(?x) :- <A>(?x)"),
+    ],
+    status: Status::Done,
+    output: "facts 3 skipped 0\nanswers 2\n(<a>)\n(<c>)\n",
+};
+
+const EQUIVALENT_BESIDE_THING: Example = Example {
+    words: ANSWER,
+    files: &[
+        (
+            "ontology.ofn",
+            "Ontology(SubClassOf(<A> owl:Thing) EquivalentClasses(<A> <B>))",
+        ),
+        (
+            "data.nt",
+            "<a> <P> <b> .
+<a> <http://www.w3.org/1999/02/22-rdf-syntax-ns#type> <B> .
+",
+        ),
+        ("query.q", "q(?x) :- <A>(?x)"),
+    ],
+    status: Status::Done,
+    output: "facts 2 skipped 0\nanswers 1\n(<a>)\n",
+};
+
 const NO_WORDS: Example = Example {
     words: &[],
     files: &[],
@@ -162,7 +202,7 @@ pub(crate) fn ends<L: Library>(
 }
 
 /// Whether it does over files in memory. No two have one name.
-fn ends_over(
+pub(crate) fn ends_over(
     alloc: Global,
     texts: &[(&str, &str)],
     words: &[&str],
@@ -201,6 +241,8 @@ const EXAMPLES: &[&Example] = &[
     &NOTHING_LOADED,
     &DISJOINT,
     &LITERAL_SKIPPED,
+    &FACTS_OF_BOTH,
+    &EQUIVALENT_BESIDE_THING,
     &NO_WORDS,
     &LIMIT_ZERO,
     &GEN_WITHOUT_SIZE,
@@ -234,82 +276,6 @@ fn worked_examples(rt: HostRuntime) -> Result<(), Fail> {
 #[test]
 fn worked_examples_by_single_bytes(rt: HostRuntime) -> Result<(), Fail> {
     assert!(rt; all_end_by_bytes(rt.alloc(), EXAMPLES)?);
-    Ok(())
-}
-
-/// A refusal: an ontology, data and a query, and what is said of them.
-type Refused = (&'static str, &'static str, &'static str, &'static str);
-
-const NO_DATA: &str = "";
-
-const MEMBERS_OF_A: &str = "q(?x) :- <A>(?x)";
-
-/// Each refusal of the files, and which of two is the first.
-const REFUSALS: &[Refused] = &[
-    (
-        "Ontology()",
-        "\n<a> <P> <b\n",
-        MEMBERS_OF_A,
-        "refused: data line 2: not a triple\n",
-    ),
-    (
-        "Ontology()",
-        "_:b <P> <a> .\n",
-        MEMBERS_OF_A,
-        "refused: data line 1: blank node\n",
-    ),
-    (
-        "Ontology()",
-        "<a> <http://www.w3.org/2002/07/owl#sameAs> <b> .",
-        MEMBERS_OF_A,
-        "refused: data line 1: reserved name\n",
-    ),
-    // The first of two faults, and what isn't built of the ontology before the data, and the data before the query.
-    (
-        "Ontology()",
-        "<a> <P> <b\n_:b <P> <a> .\n",
-        "q",
-        "refused: data line 1: not a triple\n",
-    ),
-    (
-        "Ontology(DisjointClasses(<A> <B>))",
-        "_:b <P> <a> .\n",
-        MEMBERS_OF_A,
-        "refused: not built\n",
-    ),
-    // What isn't built: another query, and owl:Nothing as a name.
-    (
-        "Ontology()",
-        NO_DATA,
-        "q(?x, ?y) :- <P>(?x, ?y)",
-        "refused: not built\n",
-    ),
-    (
-        "Ontology()",
-        "<a> <http://www.w3.org/1999/02/22-rdf-syntax-ns#type> <http://www.w3.org/2002/07/owl#Nothing> .",
-        MEMBERS_OF_A,
-        "refused: not built\n",
-    ),
-];
-
-/// Whether each is refused as it says.
-fn all_refused(alloc: Global, rows: &[Refused]) -> Result<bool, AllocError> {
-    for (ontology, facts, query, text) in rows {
-        let files = [
-            ("ontology.ofn", *ontology),
-            ("data.nt", *facts),
-            ("query.q", *query),
-        ];
-        if !ends_over(alloc, &files, ANSWER, Status::Refused, text)? {
-            return Ok(false);
-        }
-    }
-    Ok(true)
-}
-
-#[test]
-fn refusals_name_the_first_thing_that_is_wrong(rt: HostRuntime) -> Result<(), Fail> {
-    assert!(rt; all_refused(rt.alloc(), REFUSALS)?);
     Ok(())
 }
 

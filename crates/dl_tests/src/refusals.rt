@@ -1,0 +1,192 @@
+// Refusals of the command `answer`: each fault of a file, and the first of two.
+use crate::run::{ANSWER, ends_over};
+use dl_run::Status;
+use std::alloc::{AllocError, Global};
+use std::test::Fail;
+
+/// A refusal: an ontology, data and a query, and what is said of them.
+type Refused = (&'static str, &'static str, &'static str, &'static str);
+
+const NO_DATA: &str = "";
+
+const MEMBERS_OF_A: &str = "q(?x) :- <A>(?x)";
+
+/// An ontology as an editor writes it, without its disjoint classes.
+const EDITOR: &str = "Prefix(:=<http://e.org/u#>)
+Prefix(owl:=<http://www.w3.org/2002/07/owl#>)
+Prefix(rdf:=<http://www.w3.org/1999/02/22-rdf-syntax-ns#>)
+Prefix(xml:=<http://www.w3.org/XML/1998/namespace>)
+Prefix(xsd:=<http://www.w3.org/2001/XMLSchema#>)
+Prefix(rdfs:=<http://www.w3.org/2000/01/rdf-schema#>)
+
+Ontology(<http://e.org/u>
+<http://e.org/u/1.0>
+Annotation(rdfs:comment \"A small \\\"university\\\"\"@en)
+
+Declaration(Class(:Professor))
+Declaration(Class(:Course))
+Declaration(ObjectProperty(:teaches))
+Declaration(DataProperty(:email))
+Declaration(NamedIndividual(:ann))
+############################
+#   Object Properties
+############################
+
+# Object Property: :teaches (:teaches)
+AnnotationAssertion(rdfs:label :teaches \"teaches\"@en)
+SubObjectPropertyOf(:teaches owl:topObjectProperty)
+ObjectPropertyDomain(:teaches :Professor)
+ObjectPropertyRange(:teaches :Course)
+
+SubClassOf(Annotation(rdfs:comment \"each one\") :Professor ObjectSomeValuesFrom(:teaches :Course))
+ClassAssertion(:Professor :ann)
+DifferentIndividuals(:ann :bob)
+)
+";
+
+/// A text in which 65 parentheses open, the last one at byte 720.
+const DEEP: &str = "Ontology(
+Annotation(Annotation(Annotation(Annotation(Annotation(Annotation(Annotation(Annotation(
+Annotation(Annotation(Annotation(Annotation(Annotation(Annotation(Annotation(Annotation(
+Annotation(Annotation(Annotation(Annotation(Annotation(Annotation(Annotation(Annotation(
+Annotation(Annotation(Annotation(Annotation(Annotation(Annotation(Annotation(Annotation(
+Annotation(Annotation(Annotation(Annotation(Annotation(Annotation(Annotation(Annotation(
+Annotation(Annotation(Annotation(Annotation(Annotation(Annotation(Annotation(Annotation(
+Annotation(Annotation(Annotation(Annotation(Annotation(Annotation(Annotation(Annotation(
+Annotation(Annotation(Annotation(Annotation(Annotation(Annotation(Annotation(Annotation(";
+
+/// Each fault of an ontology.
+const ONTOLOGY_FAULTS: &[(&str, &str)] = &[
+    (
+        "Ontology(SubClassOf(<A> ObjectSomeValuesFrom(<P> owl:Thing))",
+        "refused: ontology byte 60: syntax\n",
+    ),
+    (DEEP, "refused: ontology byte 720: too deep\n"),
+    (
+        "Ontology(SubClassOf(x:A <B>))",
+        "refused: ontology byte 20: unknown prefix\n",
+    ),
+    (
+        "Ontology(SubClassOf(ObjectUnionOf(<A> <B>) <C>))",
+        "refused: ontology byte 20: not in OWL 2 QL: ObjectUnionOf\n",
+    ),
+    (
+        "Ontology(SubClassOf(ObjectSomeValuesFrom(<P> <A>) <B>))",
+        "refused: ontology byte 45: not in OWL 2 QL: ObjectSomeValuesFrom\n",
+    ),
+    (
+        "Ontology(Import(<http://e.org/o>))",
+        "refused: ontology byte 9: left out: Import\n",
+    ),
+    (
+        "Ontology(ClassAssertion(<A> _:b))",
+        "refused: ontology byte 28: left out: anonymous individual\n",
+    ),
+    (
+        "Ontology(SubClassOf(owl:Class <B>))",
+        "refused: ontology byte 20: reserved name\n",
+    ),
+];
+
+/// Whether each ontology is refused as it says.
+fn ontologies_refused(alloc: Global, rows: &[(&str, &str)]) -> Result<bool, AllocError> {
+    for (ontology, text) in rows {
+        let files = [
+            ("ontology.ofn", *ontology),
+            ("data.nt", NO_DATA),
+            ("query.q", MEMBERS_OF_A),
+        ];
+        if !ends_over(alloc, &files, ANSWER, Status::Refused, text)? {
+            return Ok(false);
+        }
+    }
+    Ok(true)
+}
+
+#[test]
+fn faults_of_an_ontology_are_told(rt: HostRuntime) -> Result<(), Fail> {
+    assert!(rt; ontologies_refused(rt.alloc(), ONTOLOGY_FAULTS)?);
+    Ok(())
+}
+
+/// Each refusal of the files, and which of two is the first.
+const REFUSALS: &[Refused] = &[
+    (
+        "Ontology()",
+        "\n<a> <P> <b\n",
+        MEMBERS_OF_A,
+        "refused: data line 2: not a triple\n",
+    ),
+    (
+        "Ontology()",
+        "_:b <P> <a> .\n",
+        MEMBERS_OF_A,
+        "refused: data line 1: blank node\n",
+    ),
+    (
+        "Ontology()",
+        "<a> <http://www.w3.org/2002/07/owl#sameAs> <b> .",
+        MEMBERS_OF_A,
+        "refused: data line 1: reserved name\n",
+    ),
+    // The first of two faults: the ontology's before the data's, and the data's before what isn't built.
+    (
+        "Ontology(SubClassOf(x:A owl:Class))",
+        "_:b <P> <a> .\n",
+        MEMBERS_OF_A,
+        "refused: ontology byte 20: unknown prefix\n",
+    ),
+    (
+        "Ontology()",
+        "<a> <P> <b\n_:b <P> <a> .\n",
+        "q",
+        "refused: data line 1: not a triple\n",
+    ),
+    (
+        "Ontology(DisjointClasses(<A> <B>))",
+        "_:b <P> <a> .\n",
+        MEMBERS_OF_A,
+        "refused: data line 1: blank node\n",
+    ),
+    // What isn't built: another axiom, another query, and owl:Nothing as a name.
+    (
+        "Ontology(ObjectPropertyRange(<P> <A>))",
+        NO_DATA,
+        MEMBERS_OF_A,
+        "refused: not built\n",
+    ),
+    (EDITOR, NO_DATA, MEMBERS_OF_A, "refused: not built\n"),
+    (
+        "Ontology()",
+        NO_DATA,
+        "q(?x, ?y) :- <P>(?x, ?y)",
+        "refused: not built\n",
+    ),
+    (
+        "Ontology()",
+        "<a> <http://www.w3.org/1999/02/22-rdf-syntax-ns#type> <http://www.w3.org/2002/07/owl#Nothing> .",
+        MEMBERS_OF_A,
+        "refused: not built\n",
+    ),
+];
+
+/// Whether each is refused as it says.
+fn all_refused(alloc: Global, rows: &[Refused]) -> Result<bool, AllocError> {
+    for (ontology, facts, query, text) in rows {
+        let files = [
+            ("ontology.ofn", *ontology),
+            ("data.nt", *facts),
+            ("query.q", *query),
+        ];
+        if !ends_over(alloc, &files, ANSWER, Status::Refused, text)? {
+            return Ok(false);
+        }
+    }
+    Ok(true)
+}
+
+#[test]
+fn refusals_name_the_first_thing_that_is_wrong(rt: HostRuntime) -> Result<(), Fail> {
+    assert!(rt; all_refused(rt.alloc(), REFUSALS)?);
+    Ok(())
+}
