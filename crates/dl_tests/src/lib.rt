@@ -32,3 +32,5 @@ mod run;
 mod terms;
 #[cfg(test)]
 mod triples;
+#[cfg(test)]
+mod words;

@@ -164,6 +164,45 @@ const GEN_WITHOUT_SIZE: Example = Example {
     output: USAGE,
 };
 
+const RUN_NOT_BUILT: Example = Example {
+    words: &["run", "o", "d", "s", "--shards", "2"],
+    files: &[],
+    status: Status::Refused,
+    output: "refused: not built\n",
+};
+
+const GEN_NOT_BUILT: Example = Example {
+    words: &["gen", "1", "2"],
+    files: &[],
+    status: Status::Refused,
+    output: "refused: not built\n",
+};
+
+const TWO_MEMBERS: &[(&str, &str)] = &[
+    ("o", "Ontology()"),
+    (
+        "d",
+        "<b> <http://www.w3.org/1999/02/22-rdf-syntax-ns#type> <A> .
+<a> <http://www.w3.org/1999/02/22-rdf-syntax-ns#type> <A> .
+",
+    ),
+    ("q", "q(?x) :- <A>(?x)"),
+];
+
+const LIMIT_MET: Example = Example {
+    words: &["answer", "o", "d", "q", "--limit", "2"],
+    files: TWO_MEMBERS,
+    status: Status::Done,
+    output: "facts 2 skipped 0\nanswers 2\n(<a>)\n(<b>)\n",
+};
+
+const LIMIT_PASSED: Example = Example {
+    words: &["answer", "--limit=1", "o", "d", "q"],
+    files: TWO_MEMBERS,
+    status: Status::Refused,
+    output: "refused: more than 1 answers\n",
+};
+
 /// Files with their names.
 pub(crate) fn files_of(alloc: Global, texts: &[(&str, &str)]) -> Result<NamedFiles, AllocError> {
     let mut files = Vec::new(alloc);
@@ -246,6 +285,10 @@ const EXAMPLES: &[&Example] = &[
     &NO_WORDS,
     &LIMIT_ZERO,
     &GEN_WITHOUT_SIZE,
+    &RUN_NOT_BUILT,
+    &GEN_NOT_BUILT,
+    &LIMIT_MET,
+    &LIMIT_PASSED,
 ];
 
 /// Whether each example ends as it says.
