@@ -14,3 +14,4 @@ pub mod StatementLemmas
 pub mod TokenLemmas
 pub mod QueryLemmas
 pub mod RankingLemmas
+pub mod PlaceLemmas

@@ -105,7 +105,7 @@ head-numbered : {m after : Met} {symbols rest : List Symbol} → HeadThen m symb
 head-numbered no_variable h = h
 head-numbered (some_variables all) h = variables-numbered all h
 
-head-atoms : {m after : Met} {symbols rest : List Symbol} → HeadThen m symbols rest after → after.atoms ≡ m.atoms
+pub head-atoms : {m after : Met} {symbols rest : List Symbol} → HeadThen m symbols rest after → after.atoms ≡ m.atoms
 head-atoms no_variable = refl
 head-atoms (some_variables all) = variables-atoms all
 

@@ -2,6 +2,7 @@
 ghost use Rattle.std.specs.Prelude.{◌≡◌, ◌≢◌, ◌<◌, ◌≤◌, ℕ, length, not, false, position, slice_index_or, vec_len, All, IfOk, IfErr};
 ghost use Rattle.dl_names.specs.NameList.{Extends};
 ghost use Rattle.dl_terms.specs.Queries.{IsWellFormed};
+ghost use Rattle.dl_terms.specs.Occurring.{query_names};
 ghost use Rattle.dl_query.specs.Grammar.{Met, query_of};
 ghost use Rattle.dl_query.specs.Queries.{IsValue, HasFault, QueryHasFault};
 ghost use Rattle.dl_query.specs.Parts.{AreNumbers, Judges};
@@ -22,6 +23,7 @@ use std::alloc::Global;
 /// read before it. The grammar is this project's own.
 pub fn read_query(alloc: Global, bytes: &[u8], names: &mut NameSet) -> Result<Query, QueryFault>
     ensures ok { IfOk result (λ query. IsValue bytes.now names.old query names.new) }
+    ensures places { IfOk result (λ query. All (λ place. place < length names.new) (query_names query)) }
     ensures fault { IfErr result (λ fault. fault ≢ QueryFault.NoMemory →
         HasFault bytes.now names.old fault names.new) }
     ensures grows { Extends names.old names.new }

@@ -7,6 +7,7 @@ use Rattle.dl_query.specs.Queries.{at_token}
 use Rattle.dl_query.specs.Parts.{next_symbol, AreNumbers}
 use Rattle.dl_query.proofs.StepLemmas.{Leads-stops, Stops-here, other-head_end}
 use Rattle.dl_query.proofs.HeadLemmas.{IfOk-map, IfErr-map}
+use Rattle.dl_query.proofs.PlaceLemmas.{value-placed}
 use Rattle.dl_query.proofs.QueryLemmas.{text-outcome, to-body, judged-value, judged-fault}
 use Rattle.dl_query.proofs.query.read_query.Goals as goal
 
@@ -60,6 +61,15 @@ returns-clause-ok c =
     (to-body (c.in_ok-head.ensures.ok c.args.names.now) c.in_ok-expect.ensures.ok c.in_ok-expect.ensures.passes)
     c.in_ok-body.ensures.ok c.in_ok-body.ensures.grows c.in_ok-body.ensures.fits c.len-heads.result c.len.result c.len-heads.ensures c.len.ensures
     c.deref.result.now c.deref.ensures.value q judged) c.judged.ensures.ok
+
+pub returns-clause-places : goal.returns-clause-places
+returns-clause-places c =
+    IfOk-map _ _ c.judged.result (λ q judged.
+    value-placed q (judged-value c.args.bytes.now c.args.names.now c.read_body.new.names c.read_head.new.variables c.read_body.new.variables c.in_ok-head.head.items c.in_ok-body.body
+    c.new-tokens.result c.expect.new.self c.new-tokens.ensures.len c.new-tokens.ensures.rest
+    (to-body (c.in_ok-head.ensures.ok c.args.names.now) c.in_ok-expect.ensures.ok c.in_ok-expect.ensures.passes)
+    c.in_ok-body.ensures.ok c.in_ok-body.ensures.grows c.in_ok-body.ensures.fits c.len-heads.result c.len.result c.len-heads.ensures c.len.ensures
+    c.deref.result.now c.deref.ensures.value q judged)) c.judged.ensures.ok
 
 pub returns-clause-fault : goal.returns-clause-fault
 returns-clause-fault c =
