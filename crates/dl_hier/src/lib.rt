@@ -5,6 +5,7 @@ mod below;
 mod edges;
 mod fillers;
 mod fit;
+mod guesses;
 mod hier;
 mod nodes;
 

@@ -1,5 +1,5 @@
 // The predicates of a hierarchy, in order, and the nodes of its roles and basic concepts: a term's node is its index.
-ghost use Rattle.std.specs.Prelude.{◌≡◌, ◌+◌, ◌++◌, ◌<◌, ◌≤◌, ◌^◌, map, length, Contains, IfOk, OnOk, MatchOption};
+ghost use Rattle.std.specs.Prelude.{◌≡◌, ◌+◌, ◌++◌, ◌<◌, ◌≤◌, ◌^◌, map, length, Contains, IfOk, IsTrue, OnOk, MatchOption};
 ghost use Rattle.std.specs.List.{flat_map};
 ghost use Rattle.std.specs.List.Sorted.{IsStrictlySortedBy};
 ghost use Rattle.std.specs.declared.cmp.Ordering.TheVariants.{Equal};
@@ -9,16 +9,22 @@ ghost use Rattle.dl_hier.specs.Rows.{AreFew, ArePredicatesOf};
 ghost use Rattle.dl_hier.specs.Nodes.{StandsAt};
 
 use crate::fillers::fillers_of;
+use crate::guesses::Guesses;
 use dl_terms::{Base, Basic, List, NoMemory, Normal, Role, Signature, set_of};
 use std::alloc::Global;
+use std::cmp::Ordering;
 use std::marker::Model;
 
-/// The classes and object properties of a signature, and the fillers of a normal form, each list ascending.
+/// The classes and object properties of a signature, and the fillers of a normal form, each list ascending, beside
+/// guesses where an item stands.
 #[derive(Drop)]
 pub(crate) struct Nodes {
     classes: List<u32>,
     properties: List<u32>,
     fillers: List<Base>,
+    class_guesses: Guesses,
+    property_guesses: Guesses,
+    filler_guesses: Guesses,
 }
 
 impl Model for Nodes {
@@ -46,10 +52,30 @@ impl Nodes {
         let classes = List::of(Vec::from_slice(alloc, signature.classes.as_slice())?);
         let properties = List::of(Vec::from_slice(alloc, signature.roles.as_slice())?);
         let fillers = fillers_of(alloc, normal)?;
+        Nodes::guessed(alloc, set_of(classes), set_of(properties), set_of(fillers))
+    }
+
+    /// These predicates, with guesses where they stand. Fails only for want of memory.
+    fn guessed(
+        alloc: Global,
+        classes: List<u32>,
+        properties: List<u32>,
+        fillers: List<Base>,
+    ) -> Result<Nodes, NoMemory>
+        requires { AreInOrder (record { classes = classes; properties = properties; fillers = fillers }) }
+        ensures { IfOk result (λ nodes.
+            nodes ≡ record { classes = classes; properties = properties; fillers = fillers }) }
+    {
+        let class_guesses = Guesses::of_names(alloc, classes.as_slice())?;
+        let property_guesses = Guesses::of_names(alloc, properties.as_slice())?;
+        let filler_guesses = Guesses::of_bases(alloc, fillers.as_slice())?;
         Ok(Nodes {
-            classes: set_of(classes),
-            properties: set_of(properties),
-            fillers: set_of(fillers),
+            classes,
+            properties,
+            fillers,
+            class_guesses,
+            property_guesses,
+            filler_guesses,
         })
     }
 
@@ -109,11 +135,17 @@ impl Nodes {
         ensures few { length (bases self.now) ≤ max_predicates }
     {
         match base {
-            Base::Named(name) => index_of(self.properties.as_slice(), &name),
-            Base::Filler { .. } => match index_of(self.fillers.as_slice(), &base) {
-                Some(index) => Some(self.properties.len() as u32 + index),
-                None => None,
-            },
+            Base::Named(name) => {
+                let guess = self.property_guesses.of_name(name);
+                index_of(self.properties.as_slice(), &name, guess)
+            }
+            Base::Filler { .. } => {
+                let guess = self.filler_guesses.of_base(base);
+                match index_of(self.fillers.as_slice(), &base, guess) {
+                    Some(index) => Some(self.properties.len() as u32 + index),
+                    None => None,
+                }
+            }
         }
     }
 
@@ -123,7 +155,10 @@ impl Nodes {
             (λ i. StandsAt (basics self.now) i basic) }
     {
         match basic {
-            Basic::Class(class) => index_of(self.classes.as_slice(), &class),
+            Basic::Class(class) => {
+                let guess = self.class_guesses.of_name(class);
+                index_of(self.classes.as_slice(), &class, guess)
+            }
             Basic::SomeOf(role) => match self.role(role) {
                 Some(node) => Some(self.classes.len() as u32 + node),
                 None => None,
@@ -132,17 +167,31 @@ impl Nodes {
     }
 }
 
-/// The index of an item in a list that ascends strictly.
-pub(crate) fn index_of<T: Ord>(items: &[T], item: &T) -> Option<u32>
+/// The index of an item in a list that ascends strictly: the guess, if the item stands there, or what a search finds.
+fn index_of<T: Ord>(items: &[T], item: &T, guess: usize) -> Option<u32>
     requires few { length items.now ≤ max_predicates }
     requires ascending { IsStrictlySortedBy T.cmp items.now }
     requires equal { (x y : T) → T.cmp x y ≡ Equal → x ≡ y }
     ensures { MatchOption result (Contains items.now item.now → ⊥)
         (λ i. StandsAt items.now i item.now) }
 {
+    if is_at(items, item, guess) {
+        return Some(guess as u32);
+    }
     match items.binary_search(item) {
         Ok(index) => Some(index as u32),
         Err(_) => None,
+    }
+}
+
+/// Whether an item stands at an index.
+fn is_at<T: Ord>(items: &[T], item: &T, index: usize) -> bool
+    requires { (x y : T) → T.cmp x y ≡ Equal → x ≡ y }
+    ensures { IsTrue result → StandsAt items.now index item.now }
+{
+    match items.get(index) {
+        Some(there) => there.cmp(item) == Ordering::Equal,
+        None => false,
     }
 }
 
