@@ -1,0 +1,6 @@
+use Rattle.std.proofs.Common.{take}
+use Rattle.dl_answer.specs.Probes.{AreListsOf}
+use Rattle.dl_answer.proofs.probes.lists_of.Given as goal
+
+abbrev pub invariant-loop-probe : goal.invariant-loop-probe
+invariant-loop-probe l = AreListsOf l.hier l.facts (take l.probe-index l.probes) l.lists

@@ -1,0 +1,5 @@
+pub mod OverNames
+pub mod AtNames
+pub mod Facts
+pub mod Replies
+pub mod Probes

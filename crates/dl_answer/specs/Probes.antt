@@ -1,0 +1,48 @@
+-- What is below a probe, and the lists of pairs of probes, for private functions.
+use Rattle.std.specs.Prelude.{◌≡◌, ℕ, ◌<◌, List, [], length, slice_index_or}
+use Rattle.std.specs.List.{All}
+use Rattle.dl_terms.specs.Roles.{named, inverse_of}
+use Rattle.dl_terms.specs.Below.{RoleBelow}
+use Rattle.dl_terms.specs.declared.role.Basic.TheVariants.{Class, SomeOf}
+use Rattle.dl_terms.specs.declared.axiom.Axiom.{Axiom}
+use Rattle.dl_terms.specs.declared.axiom.Fact.{Fact}
+use Rattle.dl_terms.specs.declared.query.Probe.{Probe}
+use Rattle.dl_terms.specs.declared.query.Probe.TheVariants.{AnyOf, Joined}
+use Rattle.dl_hier.specs.Predicates.{Predicates}
+use Rattle.dl_hier.specs.Hierarchy.{Hierarchy, IsHierarchyOf}
+use Rattle.dl_hier.specs.Below.{IsBelowOneOf, AreThose}
+use Rattle.dl_hier.specs.declared.below.Below.{Below}
+use Rattle.dl_join.specs.Disjuncts.{AreSorted}
+use Rattle.dl_answer.specs.Facts.{HasPredicate, AreEntries, class_entry, role_entry}
+use Rattle.dl_answer.specs.OverNames.{HoldsAlike}
+use Rattle.dl_answer.specs.declared.index.FactsByPredicate.{FactsByPredicate}
+
+-- the predicates below the basic concepts or the role of a probe
+abbrev pub AreBelowProbe : List Axiom → Predicates → Probe → Below → Type 0
+AreBelowProbe axioms p (AnyOf basics t) below =
+    AreThose p.classes (λ c. IsBelowOneOf axioms basics (Class c)) below.classes
+    × AreThose p.properties (λ r. IsBelowOneOf axioms basics (SomeOf (named r))) below.forward
+    × AreThose p.properties (λ r. IsBelowOneOf axioms basics (SomeOf (inverse_of (named r)))) below.backward
+AreBelowProbe axioms p (Joined role t u) below =
+    (below.classes ≡ []) × AreThose p.properties (λ r. RoleBelow axioms (named r) (named role)) below.forward
+    × AreThose p.properties (λ r. RoleBelow axioms (inverse_of (named r)) (named role)) below.backward
+
+-- an index has exactly some facts
+pub record IsIndexOf (facts : List Fact) (index : FactsByPredicate) : Type 0 where
+  pub classes : AreEntries class_entry facts index.classes.items
+  pub roles : AreEntries role_entry facts index.roles.items
+
+-- a hierarchy is that of the axioms and has the predicates of the facts, which an index has
+pub record AreBehind (h : Hierarchy) (index : FactsByPredicate) (axioms : List Axiom) (facts : List Fact) : Type 0 where
+  pub hierarchy : IsHierarchyOf h axioms
+  pub known : All (HasPredicate h.predicates.classes h.predicates.properties) facts
+  pub indexed : IsIndexOf facts index
+
+-- one sorted list for each probe, over which it holds exactly where it holds over axioms and facts
+pub record AreListsOf (h : Hierarchy) (index : FactsByPredicate) (probes : List Probe) (lists : List (List (ℕ × ℕ)))
+    : Type 0 where
+  pub count : length lists ≡ length probes
+  pub sorted : AreSorted lists
+  pub each : (axioms : List Axiom) (facts : List Fact) → AreBehind h index axioms facts
+      → (k : ℕ) (p : Probe) → k < length probes
+      → HoldsAlike axioms facts (slice_index_or probes k p) (slice_index_or lists k [])

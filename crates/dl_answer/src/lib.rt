@@ -1,0 +1,15 @@
+// Certain answers of conjunctive queries over axioms and facts, as the defined reply.
+#![tactic(auto)]
+
+mod answer;
+mod asked;
+mod facts;
+mod fault;
+mod index;
+mod names;
+mod pairs;
+mod probes;
+
+pub use answer::Answer;
+pub use asked::ask_facts;
+pub use fault::AskFault;

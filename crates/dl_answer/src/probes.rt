@@ -1,0 +1,89 @@
+// The lists of the pairs of probes, and the tuples of a disjunct over them.
+ghost use Rattle.std.specs.Prelude.{◌≡◌, ◌<◌, ◌^◌, ℕ, List as Items, length, IfOk};
+ghost use Rattle.std.specs.List.Sorted.{IsSorted};
+ghost use Rattle.dl_terms.specs.Roles.{named};
+ghost use Rattle.dl_terms.specs.declared.axiom.Axiom.{Axiom};
+ghost use Rattle.dl_terms.specs.declared.axiom.Fact.{Fact};
+ghost use Rattle.dl_hier.specs.Hierarchy.{IsHierarchyOf};
+ghost use Rattle.dl_join.specs.Disjuncts.{pair_cmp, IsSafe};
+ghost use Rattle.dl_answer.specs.OverNames.{HasOverNames, HoldsAlike, AreBelow};
+ghost use Rattle.dl_answer.specs.Probes.{AreBelowProbe, AreBehind, AreListsOf};
+ghost use Rattle.dl_answer.specs.Replies.{GivesTuples};
+
+use crate::index::FactsByPredicate;
+use crate::pairs::pairs_below;
+use dl_hier::{Below, Hier};
+use dl_join::{JoinFault, join};
+use dl_terms::{Base, Disjunct, List, NoMemory, Pair, Probe, Role, Tuples};
+use std::alloc::Global;
+
+/// The tuples of a disjunct over names, each once, ascending. `TooMany` comes exactly where they are more than the
+/// limit.
+pub(crate) fn tuples_of(
+    alloc: Global,
+    hier: &Hier,
+    facts: &FactsByPredicate,
+    disjunct: &Disjunct,
+    limit: u64,
+) -> Result<Tuples, JoinFault>
+    requires safe { IsSafe disjunct.now }
+    requires variables { AreBelow disjunct.now.vars disjunct.now.probes }
+    requires width { length disjunct.now.head < 2 ^ 32 }
+    ensures { (axioms : Items Axiom) (known : Items Fact) → AreBehind hier.now facts.now axioms known →
+        GivesTuples (HasOverNames axioms known disjunct.now) limit result }
+{
+    let lists = lists_of(alloc, hier, facts, disjunct.probes.as_slice())?;
+    join(alloc, disjunct, lists.as_slice(), limit)
+}
+
+/// One sorted list of pairs for each probe.
+fn lists_of(
+    alloc: Global,
+    hier: &Hier,
+    facts: &FactsByPredicate,
+    probes: &[Probe],
+) -> Result<List<List<Pair>>, NoMemory>
+    ensures { IfOk result (AreListsOf hier.now facts.now probes.now) }
+{
+    let mut lists = List::new(alloc);
+    for probe in probes {
+        lists.push(list_of(alloc, hier, facts, probe)?)?;
+    }
+    Ok(lists)
+}
+
+/// The sorted list of the pairs of a probe.
+fn list_of(
+    alloc: Global,
+    hier: &Hier,
+    facts: &FactsByPredicate,
+    probe: &Probe,
+) -> Result<List<Pair>, NoMemory>
+    ensures sorted { IfOk result (IsSorted pair_cmp) }
+    ensures holds { IfOk result (λ pairs. (axioms : Items Axiom) (known : Items Fact) →
+        AreBehind hier.now facts.now axioms known → HoldsAlike axioms known probe.now pairs) }
+{
+    let below = below_of(alloc, hier, probe)?;
+    pairs_below(alloc, facts, &below)
+}
+
+/// The predicates below the basic concepts or the role of a probe.
+fn below_of(alloc: Global, hier: &Hier, probe: &Probe) -> Result<Below, NoMemory>
+    ensures { IfOk result (λ below. (axioms : Items Axiom) → IsHierarchyOf hier.now axioms →
+        AreBelowProbe axioms hier.now.predicates probe.now below) }
+{
+    match probe {
+        Probe::AnyOf { basics, .. } => hier.predicates_below(alloc, basics.as_slice()),
+        Probe::Joined { role, .. } => hier.roles_below(alloc, named(*role)),
+    }
+}
+
+/// An object property as a role.
+fn named(name: u32) -> Role
+    ensures { result ≡ named name }
+{
+    Role {
+        base: Base::Named(name),
+        inverse: false,
+    }
+}
