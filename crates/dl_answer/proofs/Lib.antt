@@ -4,3 +4,4 @@ pub mod TupleLemmas
 pub mod FactLemmas
 pub mod BelowLemmas
 pub mod StepLemmas
+pub mod HeadLemmas

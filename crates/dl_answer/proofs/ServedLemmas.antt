@@ -34,10 +34,10 @@ use Rattle.dl_answer.proofs.NameLemmas.{certain_at_names}
 
 -- ---- variables
 
-in_list : (v : ℕ) (xs : List ℕ) → Contains xs v → list_any (nat_eq v) xs ≡ true
+pub in_list : (v : ℕ) (xs : List ℕ) → Contains xs v → list_any (nat_eq v) xs ≡ true
 in_list v xs c = list_any-from_Any (nat_eq v) xs (c.0, v, c.1, c.2, eq-eqb v v refl)
 
-list_in : (v : ℕ) (xs : List ℕ) → list_any (nat_eq v) xs ≡ true → Contains xs v
+pub list_in : (v : ℕ) (xs : List ℕ) → list_any (nat_eq v) xs ≡ true → Contains xs v
 list_in v xs e = let w = Any-from_list_any (nat_eq v) xs e in subst (Contains xs) (sym (eqb-true v w.1 w.4)) (w.0, w.2, w.3)
 
 in_range : (n v : ℕ) → v < n → Contains (range_with_len 0 n) v

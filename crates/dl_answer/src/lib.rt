@@ -9,7 +9,9 @@ mod index;
 mod names;
 mod pairs;
 mod probes;
+mod served;
 
 pub use answer::Answer;
 pub use asked::ask_facts;
 pub use fault::AskFault;
+pub use served::is_served;
