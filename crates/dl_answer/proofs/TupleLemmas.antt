@@ -7,7 +7,7 @@ use Rattle.std.specs.List.{All, Contains}
 use Rattle.std.specs.List.Sorted.{IsStrictlySortedBy}
 use Rattle.std.proofs.lemmas.Bool.{cases_lt, cases_eq}
 use Rattle.std.proofs.lemmas.List.{get_or_default}
-use Rattle.std.proofs.lemmas.List.Elements.{All-from_recursion, recursion_from_All, Contains-get_or, Contains-append_left, Contains-append_right}
+use Rattle.std.proofs.lemmas.List.Elements.{All-from_recursion, recursion_from_All, Contains-get_or, Contains-append_left, Contains-append_right, Contains-append_cases}
 use Rattle.dl_terms.specs.declared.query.Term.{Term}
 use Rattle.dl_terms.specs.declared.query.Term.TheVariants.{Var, Name}
 use Rattle.dl_terms.specs.declared.query.Probe.{Probe}
@@ -330,6 +330,27 @@ exactly_exists n d lists count few safe =
         exact = λ t. (
           λ c. (all_tuples-exact n d lists count few safe t).0 ((set.2 t).0 c),
           λ h. (set.2 t).1 ((all_tuples-exact n d lists count few safe t).1 h),
+        );
+      },
+    )
+
+-- what one or another thing holds of has a list where each of the two has one
+pub union_exists : (P Q : List ℕ → Type 0) (one two : List (List ℕ)) → AreExactly P one → AreExactly Q two
+    → (tuples : List (List ℕ)) × AreExactly (λ t. P t ⊎ Q t) tuples
+union_exists P Q one two is_one is_two =
+    let set = set_exists tuples_linear (one ++ two) in (
+      set.0,
+      record {
+        ascending = set.1;
+        exact = λ t. (
+          λ c. elim (Contains-append_cases one two t ((set.2 t).0 c)) [
+            | inl left ↦ inl ((is_one.exact t).0 left)
+            | inr right ↦ inr ((is_two.exact t).0 right)
+          ],
+          λ h. (set.2 t).1 (elim h [
+            | inl p ↦ Contains-append_left one two t ((is_one.exact t).1 p)
+            | inr q ↦ Contains-append_right one two t ((is_two.exact t).1 q)
+          ]),
         );
       },
     )
