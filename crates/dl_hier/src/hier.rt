@@ -105,9 +105,12 @@ impl Hier {
         ensures roles { result.now ≡ roles self.now.predicates }
         ensures ascending { IsStrictlySortedBy role_cmp result.now }
 
-        // What is below or above another role is among them.
+        // What is below or above another role is among them, and so is each r with "some r" below or above another.
         ensures known { (axioms : Items Axiom) → IsHierarchyOf self.now axioms →
             (r s : Role) → RoleBelow axioms r s →
+            (r ≡ s) ⊎ (Contains result.now r × Contains result.now s) }
+        ensures known_by_concepts { (axioms : Items Axiom) → IsHierarchyOf self.now axioms →
+            (r s : Role) → ConceptBelow axioms (SomeOf r) (SomeOf s) →
             (r ≡ s) ⊎ (Contains result.now r × Contains result.now s) }
     {
         self.roles.as_slice()
