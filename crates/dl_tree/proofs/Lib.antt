@@ -1,0 +1,12 @@
+pub mod WordLemmas
+pub mod BelowAnElement
+pub mod ConnectedLemmas
+pub mod FoldLemmas
+pub mod GraftLemmas
+pub mod DeepLemmas
+pub mod MaskLemmas
+pub mod GrowLemmas
+pub mod ComponentLemmas
+pub mod SubsetLemmas
+pub mod SplitLemmas
+pub mod NumberingLemmas

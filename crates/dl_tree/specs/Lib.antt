@@ -1,0 +1,7 @@
+pub mod Sets
+pub mod Folds
+pub mod Words
+pub mod Masks
+pub mod Below
+pub mod Tests
+pub mod TestsOf

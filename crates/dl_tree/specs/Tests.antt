@@ -1,0 +1,30 @@
+-- What the atoms of a query ask where some variables of a set stand at one role, as tests of bits. For private
+-- functions.
+use Rattle.std.specs.Prelude.{ℕ, ◌≡◌, ◌≤◌, Bool, true, false, not, ◌&&◌, ◌||◌, List, [], nat_eq, bit_and, slice_index_or}
+use Rattle.std.specs.List.{list_all}
+use Rattle.std.specs.Int.{bit_not, w8}
+use Rattle.dl_tree.specs.declared.atoms.AtomTest.{AtomTest}
+use Rattle.dl_tree.specs.declared.atoms.AtomTest.TheVariants.{Is, Link}
+
+-- a bit is in a mask
+abbrev pub has : ℕ → ℕ → Bool
+has bit mask = not (nat_eq (bit_and bit mask) 0)
+
+abbrev pub test_stands : ℕ → ℕ → AtomTest → Bool
+test_stands s m (Is bit holds) = not (has bit m) || holds
+test_stands s m (Link from to out into) =
+    (not (has from m) || not (has to m)) && (not (has from s) || has to s || (has from m && out))
+    && (not (has to s) || has from s || (has to m && into))
+
+-- the members of m may stand at the role, and the rest of s folds below it
+abbrev pub splits_at : List AtomTest → (ℕ → Bool) → ℕ → ℕ → Bool
+splits_at tests below s m =
+    nat_eq (bit_and m s) m && below (bit_and s (bit_not w8 m)) && list_all (test_stands s m) tests
+
+-- what rows of a table say at one place
+abbrev pub column : List (List Bool) → ℕ → ℕ → Bool
+column rows i m = slice_index_or (slice_index_or rows m []) i false
+
+-- some members of a set may stand at the role
+abbrev pub SomeSplit : List AtomTest → (ℕ → Bool) → ℕ → Type 0
+SomeSplit tests below s = (m : ℕ) × (1 ≤ m) × (m ≤ s) × (splits_at tests below s m ≡ true)

@@ -1,0 +1,51 @@
+-- What the tests of a role say of the atoms of a query, and what a row of a table says of sets. For private functions.
+use Rattle.std.specs.Prelude.{◌≡◌, ℕ, ◌<◌, ◌≤◌, ◌↔◌, Bool, true, false, List, [], length, slice_index_or}
+use Rattle.std.specs.List.{Contains}
+use Rattle.dl_terms.specs.Roles.{named, inverse_of}
+use Rattle.dl_terms.specs.Below.{RoleBelow, ConceptBelow}
+use Rattle.dl_terms.specs.declared.role.Role.{Role}
+use Rattle.dl_terms.specs.declared.role.Basic.TheVariants.{Class, SomeOf}
+use Rattle.dl_terms.specs.declared.axiom.Axiom.{Axiom}
+use Rattle.dl_terms.specs.declared.query.Atom.{Atom}
+use Rattle.dl_terms.specs.declared.query.Atom.TheVariants as atom
+use Rattle.dl_terms.specs.declared.query.Query.{Query}
+use Rattle.dl_hier.specs.Nodes.{StandsAt}
+use Rattle.dl_tree.specs.Below.{FoldsBelow}
+use Rattle.dl_tree.specs.Masks.{place, set_of, bit_of, AreLinkMasks}
+use Rattle.dl_tree.specs.Tests.{column}
+use Rattle.dl_tree.specs.declared.atoms.AtomTest.{AtomTest}
+use Rattle.dl_tree.specs.declared.atoms.AtomTest.TheVariants as test
+
+abbrev pub IsTestOf : List Axiom → List ℕ → Role → Atom → AtomTest → Type 0
+IsTestOf axioms ex t (atom.Is c u) (test.Is bit holds) =
+    (bit ≡ bit_of ex u) × ((holds ≡ true) ↔ ConceptBelow axioms (SomeOf (inverse_of t)) (Class c))
+IsTestOf axioms ex t (atom.Link p u w) (test.Link from to out into) =
+    (from ≡ bit_of ex u) × (to ≡ bit_of ex w) × ((out ≡ true) ↔ RoleBelow axioms t (inverse_of (named p)))
+    × ((into ≡ true) ↔ RoleBelow axioms t (named p))
+IsTestOf axioms ex t (atom.Is c u) (test.Link from to out into) = ⊥
+IsTestOf axioms ex t (atom.Link p u w) (test.Is bit holds) = ⊥
+
+-- the tests of a role: one for each of the atoms, in order
+pub record AreTestsOf (axioms : List Axiom) (atoms : List Atom) (ex : List ℕ) (t : Role) (tests : List AtomTest)
+    : Type 0 where
+  pub as_many : length tests ≡ length atoms
+  pub each : (k : ℕ) (a : Atom) (x : AtomTest) → StandsAt atoms k a → StandsAt tests k x → IsTestOf axioms ex t a x
+
+-- which sets of lesser number fold below the role
+abbrev pub TellsBelow : List Axiom → Query → List ℕ → Role → (ℕ → Bool) → ℕ → Type 0
+TellsBelow axioms q ex t below s = (m : ℕ) → m < s → (below m ≡ true) ↔ FoldsBelow axioms q (set_of ex m) t
+
+-- each variable stands once in the list
+abbrev pub IsNumbering : List ℕ → Type 0
+IsNumbering ex = (i : ℕ) → i < length ex → place ex (slice_index_or ex i 0) ≡ i
+
+-- the tests of each of the roles
+pub record AreTestsOfEach (axioms : List Axiom) (atoms : List Atom) (ex : List ℕ) (roles : List Role)
+    (tests : List (List AtomTest)) : Type 0 where
+  pub as_many : length tests ≡ length roles
+  pub each : (i : ℕ) (t : Role) → StandsAt roles i t → AreTestsOf axioms atoms ex t (slice_index_or tests i [])
+
+-- for each of the roles, which sets of lesser number fold below it
+abbrev pub TellsBelowEach : List Axiom → Query → List ℕ → List Role → List (List Bool) → ℕ → Type 0
+TellsBelowEach axioms q ex roles below s =
+    (i : ℕ) (t : Role) → StandsAt roles i t → TellsBelow axioms q ex t (column below i) s

@@ -1,0 +1,91 @@
+// What the atoms of a query ask where some variables of a set stand at one role.
+ghost use Rattle.std.specs.Prelude.{◌≡◌, ℕ, ◌<◌, ◌≤◌, true, false, length, slice_index_or};
+ghost use Rattle.std.specs.List.{list_all};
+ghost use Rattle.dl_tree.specs.Tests.{test_stands, splits_at, column, SomeSplit};
+
+use dl_terms::List;
+
+/// What one atom asks of a role. `bit` is the bit of its variable, and `holds` says whether its class holds below
+/// the role; `out` and `into` say whether the role is below its property's inverse, and below the property.
+#[derive(Clone, Copy)]
+pub(crate) enum AtomTest {
+    Is {
+        bit: u8,
+        holds: bool,
+    },
+    Link {
+        from: u8,
+        to: u8,
+        out: bool,
+        into: bool,
+    },
+}
+
+/// Whether some members of the set may stand at the role of the index, while the rest folds below it, which the rows
+/// of `below` say of each set.
+pub(crate) fn splits(tests: &[AtomTest], below: &[List<bool>], index: usize, s: u8) -> bool
+    requires { s < length below.now }
+    ensures yes { result ≡ true → SomeSplit tests.now (column below.now index) s }
+    ensures no { result ≡ false → (m : ℕ) → 1 ≤ m → m ≤ s →
+        splits_at tests.now (column below.now index) s m ≡ false }
+{
+    let mut m = 1;
+    while m <= u32::from(s) {
+        if splits_at(tests, below, index, s, m as u8) {
+            return true;
+        }
+        m += 1;
+    }
+    false
+}
+
+/// Whether the members of `m` may stand at the role, while the rest of `s` folds below it.
+fn splits_at(tests: &[AtomTest], below: &[List<bool>], index: usize, s: u8, m: u8) -> bool
+    requires { s < length below.now }
+    ensures { result ≡ splits_at tests.now (column below.now index) s m }
+{
+    m & s == m && is_set(below, (s & !m) as usize, index) && stand(tests, s, m)
+}
+
+/// Whether the row of a set has the bit of an index.
+fn is_set(rows: &[List<bool>], set: usize, index: usize) -> bool
+    requires { set < length rows.now }
+    ensures { result ≡ column rows.now index set }
+{
+    has_bit(rows[set].as_slice(), index)
+}
+
+/// Whether a row has the bit of an index.
+pub(crate) fn has_bit(row: &[bool], index: usize) -> bool
+    ensures { result ≡ slice_index_or row.now index false }
+{
+    match row.get(index) {
+        Some(bit) => *bit,
+        None => false,
+    }
+}
+
+fn stand(tests: &[AtomTest], s: u8, m: u8) -> bool
+    ensures { result ≡ list_all (test_stands s m) tests.now }
+{
+    tests.iter().all(|test| stands_at(test, s, m))
+}
+
+/// Whether the members of `m` may stand at the role and those of `s` that are not in `m` below it.
+fn stands_at(test: &AtomTest, s: u8, m: u8) -> bool
+    ensures { result ≡ test_stands s m test.now }
+{
+    match test {
+        AtomTest::Is { bit, holds } => *bit & m == 0 || *holds,
+        AtomTest::Link {
+            from,
+            to,
+            out,
+            into,
+        } => {
+            (*from & m == 0 || *to & m == 0)
+                && (*from & s == 0 || *to & s != 0 || *from & m != 0 && *out)
+                && (*to & s == 0 || *from & s != 0 || *to & m != 0 && *into)
+        }
+    }
+}

@@ -1,0 +1,6 @@
+// Tree witnesses: which sets of existential variables of a query fold into the trees that roles generate.
+#![tactic(auto)]
+
+mod atoms;
+pub mod laws;
+mod masks;
