@@ -10,3 +10,4 @@ pub mod ComponentLemmas
 pub mod SubsetLemmas
 pub mod SplitLemmas
 pub mod NumberingLemmas
+pub mod VariableLemmas

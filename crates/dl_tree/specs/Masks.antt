@@ -1,11 +1,12 @@
 -- Sets of existential variables as numbers: the i-th bit stands for the i-th variable.
-use Rattle.std.specs.Prelude.{◌≡◌, ℕ, ◌<◌, ◌^◌, Bool, true, List, cond, length, nat_eq, bit_and, bit_or}
+use Rattle.std.specs.Prelude.{◌≡◌, ℕ, ◌<◌, ◌^◌, Bool, true, List, [], ◌∷◌, cond, length, nat_eq, bit_and, bit_or}
 use Rattle.std.specs.Int.{bit_at}
 use Rattle.std.specs.List.{Contains, list_any, position_or_len}
 use Rattle.dl_terms.specs.Chain.{Chain}
 use Rattle.dl_terms.specs.declared.query.Term.{Term}
 use Rattle.dl_terms.specs.declared.query.Term.TheVariants.{Var, Name}
-use Rattle.dl_terms.specs.declared.query.Atom.TheVariants.{Link}
+use Rattle.dl_terms.specs.declared.query.Atom.{Atom}
+use Rattle.dl_terms.specs.declared.query.Atom.TheVariants.{Is, Link}
 use Rattle.dl_terms.specs.declared.query.Query.{Query}
 use Rattle.dl_tree.specs.Sets.{IsStepWithin}
 
@@ -20,6 +21,11 @@ set_of ex mask v = nat_eq (bit_at mask (place ex v)) 1
 abbrev pub bit_of : List ℕ → Term → ℕ
 bit_of ex (Var v) = cond (list_any (nat_eq v) ex) (2 ^ place ex v) 0
 bit_of ex (Name a) = 0
+
+-- the bits of the two terms of a role atom
+abbrev pub atom_links : List ℕ → Atom → List (ℕ × ℕ)
+atom_links ex (Is c u) = []
+atom_links ex (Link p u w) = (bit_of ex u, bit_of ex w) ∷ []
 
 -- the bits of the two terms of each role atom
 pub record AreLinkMasks (q : Query) (ex : List ℕ) (links : List (ℕ × ℕ)) : Type 0 where

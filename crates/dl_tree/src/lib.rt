@@ -4,3 +4,4 @@
 mod atoms;
 pub mod laws;
 mod masks;
+mod variables;
