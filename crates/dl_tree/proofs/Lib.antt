@@ -11,3 +11,5 @@ pub mod SubsetLemmas
 pub mod SplitLemmas
 pub mod NumberingLemmas
 pub mod VariableLemmas
+pub mod RowLemmas
+pub mod LeadLemmas

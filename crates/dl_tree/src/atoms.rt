@@ -1,5 +1,5 @@
 // What the atoms of a query ask where some variables of a set stand at one role.
-ghost use Rattle.std.specs.Prelude.{◌≡◌, ℕ, ◌<◌, ◌≤◌, true, false, length, slice_index_or};
+ghost use Rattle.std.specs.Prelude.{◌≡◌, ℕ, ◌≤◌, true, false, slice_index_or};
 ghost use Rattle.std.specs.List.{list_all};
 ghost use Rattle.dl_tree.specs.Tests.{test_stands, splits_at, column, SomeSplit};
 
@@ -24,7 +24,6 @@ pub(crate) enum AtomTest {
 /// Whether some members of the set may stand at the role of the index, while the rest folds below it, which the rows
 /// of `below` say of each set.
 pub(crate) fn splits(tests: &[AtomTest], below: &[List<bool>], index: usize, s: u8) -> bool
-    requires { s < length below.now }
     ensures yes { result ≡ true → SomeSplit tests.now (column below.now index) s }
     ensures no { result ≡ false → (m : ℕ) → 1 ≤ m → m ≤ s →
         splits_at tests.now (column below.now index) s m ≡ false }
@@ -41,18 +40,19 @@ pub(crate) fn splits(tests: &[AtomTest], below: &[List<bool>], index: usize, s: 
 
 /// Whether the members of `m` may stand at the role, while the rest of `s` folds below it.
 fn splits_at(tests: &[AtomTest], below: &[List<bool>], index: usize, s: u8, m: u8) -> bool
-    requires { s < length below.now }
     ensures { result ≡ splits_at tests.now (column below.now index) s m }
 {
     m & s == m && is_set(below, (s & !m) as usize, index) && stand(tests, s, m)
 }
 
 /// Whether the row of a set has the bit of an index.
-fn is_set(rows: &[List<bool>], set: usize, index: usize) -> bool
-    requires { set < length rows.now }
+pub(crate) fn is_set(rows: &[List<bool>], set: usize, index: usize) -> bool
     ensures { result ≡ column rows.now index set }
 {
-    has_bit(rows[set].as_slice(), index)
+    match rows.get(set) {
+        Some(row) => has_bit(row.as_slice(), index),
+        None => false,
+    }
 }
 
 /// Whether a row has the bit of an index.

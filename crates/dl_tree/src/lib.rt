@@ -4,4 +4,5 @@
 mod atoms;
 pub mod laws;
 mod masks;
+mod rows;
 mod variables;
