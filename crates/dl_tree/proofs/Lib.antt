@@ -13,3 +13,5 @@ pub mod NumberingLemmas
 pub mod VariableLemmas
 pub mod RowLemmas
 pub mod LeadLemmas
+pub mod EachLemmas
+pub mod PartLemmas

@@ -9,8 +9,7 @@ use Rattle.std.proofs.Math.Pow.{pow_mono}
 use Rattle.dl_terms.specs.declared.role.Role.{Role}
 use Rattle.dl_terms.specs.declared.axiom.Axiom.{Axiom}
 use Rattle.dl_terms.specs.declared.query.Term.{Term}
-use Rattle.dl_terms.specs.declared.query.Term.TheVariants.{Name}
-use Rattle.dl_hier.proofs.MemberLemmas.{StandsAt-get}
+use Rattle.std.proofs.lemmas.List.{get_or_default}
 use Rattle.std.proofs.lemmas.List.Elements.{Contains-get_or}
 use Rattle.dl_terms.specs.declared.query.Atom.{Atom}
 use Rattle.dl_terms.specs.declared.query.Atom.TheVariants as atom
@@ -20,7 +19,7 @@ use Rattle.dl_tree.specs.Sets.{is_in}
 use Rattle.dl_tree.specs.Below.{minus, FoldsBelow, LinkStands, AtomStands, SplitsAtSome}
 use Rattle.dl_tree.specs.Masks.{place, set_of, bit_of}
 use Rattle.dl_tree.specs.Tests.{has, test_stands, splits_at}
-use Rattle.dl_tree.specs.TestsOf.{IsTestOf, AreTestsOf, TellsBelow, IsNumbering}
+use Rattle.dl_tree.specs.TestsOf.{IsTestOf, no_atom, no_test, AreTestsOf, TellsBelow, IsNumbering}
 use Rattle.dl_tree.specs.declared.atoms.AtomTest.{AtomTest}
 use Rattle.dl_tree.specs.declared.atoms.AtomTest.TheVariants as test
 use Rattle.dl_tree.proofs.FoldLemmas.{true_or_false, not_both, and_left, and_right, both, not_true}
@@ -116,7 +115,7 @@ module _ (axioms : List Axiom) (q : Query) (ex : List ℕ) (t : Role) where
 
   -- ---- subsets
 
-  within_is : (s m : ℕ) → bit_and m s ≡ m → (v : ℕ) → set_of ex m v ≡ true → set_of ex s v ≡ true
+  pub within_is : (s m : ℕ) → bit_and m s ≡ m → (v : ℕ) → set_of ex m v ≡ true → set_of ex s v ≡ true
   within_is s m e v h =
       let o = true_one (bit_at m (place ex v)) h in
       let k = bit_at_and m s (place ex v) in
@@ -124,7 +123,7 @@ module _ (axioms : List Axiom) (q : Query) (ex : List ℕ) (t : Role) where
       let g = bit_at-lt s (place ex v) in
       one_true (bit_at s (place ex v)) (omega (arith, o, k, l, g))
 
-  is_within : (s m : ℕ) → IsNumbering ex → s < 2 ^ length ex → m < 2 ^ length ex → ((v : ℕ) → set_of ex m v ≡ true → set_of ex s v ≡ true) → bit_and m s ≡ m
+  pub is_within : (s m : ℕ) → IsNumbering ex → s < 2 ^ length ex → m < 2 ^ length ex → ((v : ℕ) → set_of ex m v ≡ true → set_of ex s v ≡ true) → bit_and m s ≡ m
   is_within s m numbering fs fm within =
       same_from_bits_below (length ex) (bit_and m s) m (minus_fits ex m s fm) fm (λ i l. bit i l (true_or_false (set_of ex m (get_or ex i 0))))
     where
@@ -180,17 +179,15 @@ module _ (axioms : List Axiom) (q : Query) (ex : List ℕ) (t : Role) where
     -- each atom has a test, and each test is of an atom
     test_for : (a : Atom) → Contains q.atoms a → (x : AtomTest) × Contains tests x × IsTestOf axioms ex t a x
     test_for a c =
-        let d = test.Is 0 true in
         let l : c.0 < length tests = let n = are.as_many in let k = c.1 in omega (arith, n, k) in
-        let x = get_or tests c.0 d in
-        (x, Contains-get_or tests c.0 d l, are.each c.0 a x (record { within = c.1; is = c.2 }) (StandsAt-get tests c.0 d l))
+        let e : get_or q.atoms c.0 no_atom ≡ a = get_or_default q.atoms c.0 no_atom a c.1 ∙ c.2 in
+        (get_or tests c.0 no_test, Contains-get_or tests c.0 no_test l, subst (λ z. IsTestOf axioms ex t z (get_or tests c.0 no_test)) e (are.each c.0 c.1))
 
     atom_for : (x : AtomTest) → Contains tests x → (a : Atom) × Contains q.atoms a × IsTestOf axioms ex t a x
     atom_for x c =
-        let d = atom.Is 0 (Name 0) in
         let l : c.0 < length q.atoms = let n = are.as_many in let k = c.1 in omega (arith, n, k) in
-        let a = get_or q.atoms c.0 d in
-        (a, Contains-get_or q.atoms c.0 d l, are.each c.0 a x (StandsAt-get q.atoms c.0 d l) (record { within = c.1; is = c.2 }))
+        let e : get_or tests c.0 no_test ≡ x = get_or_default tests c.0 no_test x c.1 ∙ c.2 in
+        (get_or q.atoms c.0 no_atom, Contains-get_or q.atoms c.0 no_atom l, subst (IsTestOf axioms ex t (get_or q.atoms c.0 no_atom)) e (are.each c.0 l))
 
     byte : (m : ℕ) → m < 2 ^ length ex → m < 2 ^ 8
     byte m h = let p = pow_mono few in omega (arith, p, h)

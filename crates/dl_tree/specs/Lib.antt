@@ -4,5 +4,6 @@ pub mod Words
 pub mod Masks
 pub mod Below
 pub mod Rows
+pub mod Each
 pub mod Tests
 pub mod TestsOf

@@ -10,6 +10,10 @@ use Rattle.dl_tree.specs.declared.atoms.AtomTest.TheVariants.{Is, Link}
 abbrev pub has : ℕ → ℕ → Bool
 has bit mask = not (nat_eq (bit_and bit mask) 0)
 
+-- of the two terms of a role atom one is in the set
+abbrev pub crosses : ℕ → ℕ × ℕ → Bool
+crosses s e = (has e.0 s && not (has e.1 s)) || (has e.1 s && not (has e.0 s))
+
 abbrev pub test_stands : ℕ → ℕ → AtomTest → Bool
 test_stands s m (Is bit holds) = not (has bit m) || holds
 test_stands s m (Link from to out into) =

@@ -1,6 +1,5 @@
 -- What the tests of a role say of the atoms of a query, and what a row of a table says of sets. For private functions.
 use Rattle.std.specs.Prelude.{◌≡◌, ℕ, ◌<◌, ◌≤◌, ◌↔◌, Bool, true, false, List, [], length, slice_index_or}
-use Rattle.std.specs.List.{Contains}
 use Rattle.dl_terms.specs.Roles.{named, inverse_of}
 use Rattle.dl_terms.specs.Below.{RoleBelow, ConceptBelow}
 use Rattle.dl_terms.specs.declared.role.Role.{Role}
@@ -9,9 +8,11 @@ use Rattle.dl_terms.specs.declared.axiom.Axiom.{Axiom}
 use Rattle.dl_terms.specs.declared.query.Atom.{Atom}
 use Rattle.dl_terms.specs.declared.query.Atom.TheVariants as atom
 use Rattle.dl_terms.specs.declared.query.Query.{Query}
-use Rattle.dl_hier.specs.Nodes.{StandsAt}
+use Rattle.dl_terms.specs.declared.query.Term.TheVariants.{Var}
 use Rattle.dl_tree.specs.Below.{FoldsBelow}
-use Rattle.dl_tree.specs.Masks.{place, set_of, bit_of, AreLinkMasks}
+use Rattle.dl_tree.specs.Masks.{place, set_of, bit_of}
+use Rattle.dl_tree.specs.Each.{IsEach}
+use Rattle.dl_tree.specs.Rows.{role_at}
 use Rattle.dl_tree.specs.Tests.{column}
 use Rattle.dl_tree.specs.declared.atoms.AtomTest.{AtomTest}
 use Rattle.dl_tree.specs.declared.atoms.AtomTest.TheVariants as test
@@ -25,11 +26,16 @@ IsTestOf axioms ex t (atom.Link p u w) (test.Link from to out into) =
 IsTestOf axioms ex t (atom.Is c u) (test.Link from to out into) = ⊥
 IsTestOf axioms ex t (atom.Link p u w) (test.Is bit holds) = ⊥
 
+abbrev pub no_atom : Atom
+no_atom = atom.Is 0 (Var 0)
+
+abbrev pub no_test : AtomTest
+no_test = test.Is 0 true
+
 -- the tests of a role: one for each of the atoms, in order
-pub record AreTestsOf (axioms : List Axiom) (atoms : List Atom) (ex : List ℕ) (t : Role) (tests : List AtomTest)
-    : Type 0 where
-  pub as_many : length tests ≡ length atoms
-  pub each : (k : ℕ) (a : Atom) (x : AtomTest) → StandsAt atoms k a → StandsAt tests k x → IsTestOf axioms ex t a x
+abbrev pub AreTestsOf : List Axiom → List Atom → List ℕ → Role → List AtomTest → Type 0
+AreTestsOf axioms atoms ex t tests =
+    IsEach no_test (length atoms) (λ k x. IsTestOf axioms ex t (slice_index_or atoms k no_atom) x) tests
 
 -- which sets of lesser number fold below the role
 abbrev pub TellsBelow : List Axiom → Query → List ℕ → Role → (ℕ → Bool) → ℕ → Type 0
@@ -40,12 +46,11 @@ abbrev pub IsNumbering : List ℕ → Type 0
 IsNumbering ex = (i : ℕ) → i < length ex → place ex (slice_index_or ex i 0) ≡ i
 
 -- the tests of each of the roles
-pub record AreTestsOfEach (axioms : List Axiom) (atoms : List Atom) (ex : List ℕ) (roles : List Role)
-    (tests : List (List AtomTest)) : Type 0 where
-  pub as_many : length tests ≡ length roles
-  pub each : (i : ℕ) (t : Role) → StandsAt roles i t → AreTestsOf axioms atoms ex t (slice_index_or tests i [])
+abbrev pub AreTestsOfEach : List Axiom → List Atom → List ℕ → List Role → List (List AtomTest) → Type 0
+AreTestsOfEach axioms atoms ex roles tests =
+    IsEach [] (length roles) (λ i own. AreTestsOf axioms atoms ex (role_at roles i) own) tests
 
 -- for each of the roles, which sets of lesser number fold below it
 abbrev pub TellsBelowEach : List Axiom → Query → List ℕ → List Role → List (List Bool) → ℕ → Type 0
 TellsBelowEach axioms q ex roles below s =
-    (i : ℕ) (t : Role) → StandsAt roles i t → TellsBelow axioms q ex t (column below i) s
+    (i : ℕ) → i < length roles → TellsBelow axioms q ex (role_at roles i) (column below i) s

@@ -1,6 +1,7 @@
 // Tree witnesses: which sets of existential variables of a query fold into the trees that roles generate.
 #![tactic(auto)]
 
+mod asked;
 mod atoms;
 pub mod laws;
 mod masks;
