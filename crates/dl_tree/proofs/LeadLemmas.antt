@@ -1,5 +1,5 @@
 -- Rows of roles from which a role of another row is reached: in one step, and by chains.
-use Rattle.std.proofs.Common.{◌≡◌, ℕ, ◌+◌, ◌<◌, ◌⊎◌, ◌↔◌, inl, inr, Bool, true, false, not, cond, List, length, set, get_or, refl, sym, ap, subst, ◌∙◌, arith, get_or-set_same, get_or-set_other, true≢false}
+use Rattle.std.proofs.Common.{◌≡◌, ℕ, ◌+◌, ◌<◌, ◌⊎◌, ◌↔◌, inl, inr, Bool, true, false, not, cond, List, length, set, get_or, refl, sym, ap, subst, ◌∙◌, arith, get_or-set_other, true≢false}
 use Rattle.std.specs.List.{Contains, count_by}
 use Rattle.std.specs.List.Sorted.{IsStrictlySortedBy}
 use Rattle.std.proofs.lemmas.List.Sums.{sum_by-set}
@@ -18,7 +18,7 @@ use Rattle.dl_hier.specs.Predicates.{Predicates, roles}
 use Rattle.dl_hier.proofs.SortedLemmas.{one_index}
 use Rattle.dl_hier.proofs.PredicateLemmas.{inverse-known}
 use Rattle.dl_tree.specs.Below.{MayFollow}
-use Rattle.dl_tree.specs.Rows.{role_at, HasBit, TellsRow, LeadsTo, ChainLeadsTo}
+use Rattle.dl_tree.specs.Rows.{role_at, HasBit, TellsRow, ChainLeadsTo}
 use Rattle.dl_tree.proofs.FoldLemmas.{not_both}
 use Rattle.dl_tree.proofs.RowLemmas.{TellsRow-same}
 
@@ -130,9 +130,13 @@ module _ (axioms : List Axiom) (rs : List Role) (row : List Bool) where
       back empty c f = f
       back (step {a = t} {b = v} follow chain) c f =
           let w = back chain (known t v follow c) f in
-          let e : role_at rs c.0 ≡ t = read c in
-          (c.0, c.1, e, s.closed c.0 w.0 c.1 w.1 (all w.0 w.1 w.3)
-          (subst (λ z. MayFollow axioms z (role_at rs w.0)) (sym e) (subst (MayFollow axioms t) (sym w.2) follow)))
+          let e : role_at rs c.0 ≡ t = read c in (
+            c.0,
+            c.1,
+            e,
+            s.closed c.0 w.0 c.1 w.1 (all w.0 w.1 w.3)
+                (subst (λ z. MayFollow axioms z (role_at rs w.0)) (sym e) (subst (MayFollow axioms t) (sym w.2) follow)),
+          )
         where
           read : {t : Role} → (c : Contains rs t) → role_at rs c.0 ≡ t
           read {t} c = get_or_default rs c.0 (named 0) t c.1 ∙ c.2

@@ -15,3 +15,5 @@ pub mod RowLemmas
 pub mod LeadLemmas
 pub mod EachLemmas
 pub mod PartLemmas
+pub mod NeighbourLemmas
+pub mod TableLemmas

@@ -1,21 +1,20 @@
 -- A part of a set by one of its bits, and when it is the whole set.
-use Rattle.std.proofs.Common.{◌≡◌, ℕ, ◌*◌, ◌<◌, ◌≤◌, ◌^◌, ◌⊎◌, Bool, true, false, cond, List, [], length, get_or, nat_eq, bit_and, refl, sym, ap, subst, ◌∙◌, inl, inr, arith}
+use Rattle.std.proofs.Common.{◌≡◌, ℕ, ◌*◌, ◌<◌, ◌≤◌, ◌^◌, ◌⊎◌, Bool, true, false, cond, List, [], length, get_or, nat_eq, bit_and, sym, ap, ◌∙◌, inl, inr, arith}
 use Rattle.std.specs.Int.{bit_at}
-use Rattle.std.specs.List.{Contains, list_any}
+use Rattle.std.specs.List.{list_any}
 use Rattle.std.proofs.lemmas.Nat.{and_comm, and_le_l, pow_pos}
 use Rattle.std.proofs.lemmas.Nat.Bits.{bit_at_above, bit_at-lt, bit_at-zero, and_pow, same_from_bits_below}
 use Rattle.std.proofs.Math.Nat.{zero-mul, one-mul}
 use Rattle.std.proofs.Math.Pow.{pow_mono}
 use Rattle.dl_terms.specs.Chain.{Chain, empty, step}
 use Rattle.dl_terms.specs.Roles.{named}
-use Rattle.dl_terms.specs.declared.query.Term.{Term}
 use Rattle.dl_terms.specs.declared.query.Term.TheVariants.{Var}
 use Rattle.dl_terms.specs.declared.query.Query.{Query}
 use Rattle.dl_tree.specs.Sets.{AreLinked, forward, backward, IsStepWithin, IsConnected}
-use Rattle.dl_tree.specs.Below.{minus, IsClosedIn}
+use Rattle.dl_tree.specs.Below.{IsClosedIn}
 use Rattle.dl_tree.specs.Masks.{place, set_of, bit_of}
 use Rattle.dl_tree.specs.TestsOf.{IsNumbering}
-use Rattle.dl_tree.proofs.FoldLemmas.{true_or_false, not_both}
+use Rattle.dl_tree.proofs.FoldLemmas.{true_or_false}
 use Rattle.dl_tree.proofs.MaskLemmas.{place-none, one_true}
 use Rattle.dl_tree.proofs.SplitLemmas.{is_within}
 

@@ -2,7 +2,6 @@
 use Rattle.std.proofs.Common.{◌≡◌, ℕ, ◌+◌, ◌<◌, ◌⊎◌, ◌↔◌, Bool, true, false, List, [], ◌∷◌, ◌++◌, length, length-append, get_or, sym, ap, subst, ◌∙◌, inl, inr, arith}
 use Rattle.std.proofs.lemmas.List.{get_or_append_left, get_or_at}
 use Rattle.dl_tree.specs.Rows.{HasBit, TellsRow}
-use Rattle.dl_tree.proofs.FoldLemmas.{true_or_false}
 
 pub TellsRow-none : (P : ℕ → Type 0) (row : List Bool) → row ≡ [] → TellsRow 0 P row
 TellsRow-none P row empty = record { as_many = ap length empty; each = λ i l. absurd (omega (arith, l)) }

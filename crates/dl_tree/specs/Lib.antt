@@ -7,3 +7,5 @@ pub mod Rows
 pub mod Each
 pub mod Tests
 pub mod TestsOf
+pub mod Table
+pub mod Plans

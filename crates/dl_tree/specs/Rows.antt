@@ -1,5 +1,5 @@
 -- Rows of bits over the roles of a hierarchy: the bit of each role's place. For private functions.
-use Rattle.std.specs.Prelude.{◌≡◌, ℕ, ◌<◌, ◌↔◌, ◌⊎◌, Bool, true, false, List, length, slice_index_or}
+use Rattle.std.specs.Prelude.{◌≡◌, ℕ, ◌<◌, ◌↔◌, Bool, true, false, List, length, slice_index_or}
 use Rattle.dl_terms.specs.Chain.{Chain}
 use Rattle.dl_terms.specs.Roles.{named}
 use Rattle.dl_terms.specs.declared.role.Role.{Role}

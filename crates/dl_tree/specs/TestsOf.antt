@@ -1,5 +1,5 @@
 -- What the tests of a role say of the atoms of a query, and what a row of a table says of sets. For private functions.
-use Rattle.std.specs.Prelude.{◌≡◌, ℕ, ◌<◌, ◌≤◌, ◌↔◌, Bool, true, false, List, [], length, slice_index_or}
+use Rattle.std.specs.Prelude.{◌≡◌, ℕ, ◌<◌, ◌↔◌, Bool, true, List, [], length, slice_index_or}
 use Rattle.dl_terms.specs.Roles.{named, inverse_of}
 use Rattle.dl_terms.specs.Below.{RoleBelow, ConceptBelow}
 use Rattle.dl_terms.specs.declared.role.Role.{Role}

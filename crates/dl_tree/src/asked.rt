@@ -2,7 +2,6 @@
 ghost use Rattle.std.specs.Prelude.{◌≡◌, ℕ, ◌≤◌, length, List as Items, IfOk};
 ghost use Rattle.dl_terms.specs.Roles.{named};
 ghost use Rattle.dl_terms.specs.declared.axiom.Axiom.{Axiom};
-ghost use Rattle.dl_hier.specs.Predicates.{roles};
 ghost use Rattle.dl_hier.specs.Hierarchy.{IsHierarchyOf};
 ghost use Rattle.dl_tree.specs.TestsOf.{IsTestOf, AreTestsOf, AreTestsOfEach};
 
@@ -17,14 +16,14 @@ use std::alloc::Global;
 pub(crate) fn tests_of_roles(
     alloc: Global,
     hier: &Hier,
+    roles: &[Role],
     variables: &[u8],
     atoms: &[Atom],
 ) -> Result<List<List<AtomTest>>, NoMemory>
     requires { length variables.now ≤ 8 }
     ensures { IfOk result (λ tests. (axioms : Items Axiom) → IsHierarchyOf hier.now axioms →
-        AreTestsOfEach axioms atoms.now variables.now (roles hier.now.predicates) tests) }
+        AreTestsOfEach axioms atoms.now variables.now roles.now tests) }
 {
-    let roles = hier.roles();
     let mut tests = List::new(alloc);
     for i in 0..roles.len() {
         tests.push(tests_of(alloc, hier, variables, atoms, roles[i])?)?;

@@ -3,7 +3,11 @@
 
 mod asked;
 mod atoms;
+mod folds;
 pub mod laws;
 mod masks;
 mod rows;
+mod table;
 mod variables;
+
+pub use table::TreeTable;

@@ -22,6 +22,17 @@ fn crosses(link: (u8, u8), s: u8) -> bool
     (link.0 & s != 0 && link.1 & s == 0) || (link.1 & s != 0 && link.0 & s == 0)
 }
 
+/// Whether a set is connected.
+pub(crate) fn is_connected(links: &[(u8, u8)], s: u8) -> bool
+    ensures { (q : Query) (ex : List ℕ) → AreLinkMasks q ex links.now → IsNumbering ex → length ex ≤ 8
+        → s < 2 ^ length ex → (result ≡ true) ↔ IsConnected q (set_of ex s) }
+{
+    if s == 0 {
+        return false;
+    }
+    part_of(links, s) == s
+}
+
 /// A connected part of a set that isn't empty, which no role atom links to the rest of it.
 pub(crate) fn part_of(links: &[(u8, u8)], s: u8) -> u8
     ensures { (q : Query) (ex : List ℕ) → AreLinkMasks q ex links.now → IsNumbering ex → length ex ≤ 8

@@ -132,12 +132,7 @@ fn pending(row: &[bool], done: &[bool]) -> Option<usize>
 }
 
 /// The row with the bits of the roles that a role may follow.
-fn with_leading(
-    alloc: Global,
-    hier: &Hier,
-    row: &[bool],
-    to: Role,
-) -> Result<List<bool>, NoMemory>
+fn with_leading(alloc: Global, hier: &Hier, row: &[bool], to: Role) -> Result<List<bool>, NoMemory>
     ensures { IfOk result (λ found. (axioms : Items Axiom) → IsHierarchyOf hier.now axioms →
         TellsRow (length (roles hier.now.predicates)) (λ i. HasBit row.now i
         ⊎ MayFollow axioms (role_at (roles hier.now.predicates) i) to) found) }

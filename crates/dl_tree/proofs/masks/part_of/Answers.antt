@@ -1,4 +1,4 @@
-use Rattle.std.proofs.Common.{◌≡◌, ◌<◌, ◌^◌, ◌∙◌, ℕ, bit_and, length, sym, subst, arith}
+use Rattle.std.proofs.Common.{◌≡◌, ◌∙◌, bit_and, sym, subst, arith}
 use Rattle.dl_tree.proofs.PartLemmas.{bit_member, no_bits}
 use Rattle.dl_tree.proofs.masks.part_of.Goals as goal
 

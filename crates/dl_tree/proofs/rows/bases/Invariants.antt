@@ -1,6 +1,6 @@
-use Rattle.std.proofs.Common.{◌≡◌, true, [], slice_index_or}
+use Rattle.std.proofs.Common.{[], slice_index_or}
 use Rattle.dl_tree.specs.Tests.{column, SomeSplit}
-use Rattle.dl_tree.specs.Rows.{HasBit, TellsRow}
+use Rattle.dl_tree.specs.Rows.{TellsRow}
 use Rattle.dl_tree.proofs.rows.bases.Given as goal
 
 abbrev pub invariant-loop-i : goal.invariant-loop-i

@@ -1,6 +1,6 @@
-use Rattle.std.proofs.Common.{◌≡◌, true, [], slice_index_or}
-use Rattle.dl_tree.specs.Tests.{column, SomeSplit}
-use Rattle.dl_tree.specs.Rows.{HasBit, TellsRow}
+use Rattle.std.proofs.Common.{◌≡◌, true}
+use Rattle.dl_tree.specs.Tests.{column}
+use Rattle.dl_tree.specs.Rows.{TellsRow}
 use Rattle.dl_tree.proofs.rows.both.Given as goal
 
 abbrev pub invariant-loop-i : goal.invariant-loop-i

@@ -1,5 +1,3 @@
-use Rattle.std.proofs.Common.{◌≡◌, true, [], slice_index_or}
-use Rattle.dl_tree.specs.Tests.{column, SomeSplit}
 use Rattle.dl_tree.specs.Rows.{HasBit, TellsRow}
 use Rattle.dl_tree.proofs.rows.copied.Given as goal
 

@@ -1,4 +1,4 @@
-use Rattle.std.proofs.Common.{◌≡◌, ◌+◌, List, Bool, length, sym, ap, subst, ◌∙◌, arith, true≢false}
+use Rattle.std.proofs.Common.{◌≡◌, ◌+◌, List, length, sym, ap, subst, ◌∙◌, arith, true≢false}
 use Rattle.dl_terms.specs.declared.role.Role.{Role}
 use Rattle.dl_hier.specs.Predicates.{roles}
 use Rattle.dl_tree.specs.Rows.{TellsRow}

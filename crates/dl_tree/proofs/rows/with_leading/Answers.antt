@@ -1,5 +1,4 @@
-use Rattle.std.proofs.Common.{◌≡◌, ◌↔◌, ◌⊎◌, ℕ, List, true, length, subst, sym, ap, arith}
-use Rattle.dl_terms.specs.declared.axiom.Axiom.{Axiom}
+use Rattle.std.proofs.Common.{◌≡◌, ◌↔◌, ◌⊎◌, true, length, subst, ap, arith}
 use Rattle.dl_hier.specs.Predicates.{roles}
 use Rattle.dl_tree.specs.Below.{MayFollow}
 use Rattle.dl_tree.specs.Rows.{role_at, HasBit, TellsRow}

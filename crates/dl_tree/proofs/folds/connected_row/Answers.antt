@@ -1,0 +1,23 @@
+use Rattle.std.proofs.Common.{length, sym, subst, ◌∙◌}
+use Rattle.std.proofs.lemmas.Result.{IfOk-weaker}
+use Rattle.dl_hier.specs.Predicates.{roles}
+use Rattle.dl_tree.specs.Rows.{TellsRow, ChainLeadsTo}
+use Rattle.dl_tree.proofs.TableLemmas.{near, alone}
+use Rattle.dl_tree.proofs.folds.connected_row.Goals as goal
+
+pub returns-then-has_neighbour : goal.returns-then-has_neighbour
+returns-then-has_neighbour c = λ axioms q next connected. record {
+  connected = connected;
+  tells = near c.args.hier.now axioms q c.args.links.now c.args.tests.now c.args.below.now c.args.s next c.in_ok-row.row c.in_ok-row.ensures
+      (sym c.has_neighbour.ensures ∙ c.if-has_neighbour.true);
+}
+
+pub returns : goal.returns
+returns c =
+    let rs = roles c.args.hier.now.predicates in
+    IfOk-weaker c.led.result _ _ (λ found told axioms q next connected. record {
+      connected = connected;
+      tells = alone c.args.hier.now axioms q c.args.links.now c.args.tests.now c.args.below.now c.args.s next connected c.in_ok-row.row found
+          c.in_ok-row.ensures (sym c.has_neighbour.ensures ∙ c.if-has_neighbour.false)
+          (subst (λ z. TellsRow (length rs) (ChainLeadsTo axioms rs z) found) c.as_slice.ensures (told axioms next.plan.hierarchy));
+    }) c.led.ensures
