@@ -15,5 +15,6 @@ pub mod RowLemmas
 pub mod LeadLemmas
 pub mod EachLemmas
 pub mod PartLemmas
+pub mod TopLemmas
 pub mod NeighbourLemmas
 pub mod TableLemmas

@@ -57,7 +57,7 @@ border_is false b c o = (λ e g _. absurd (true≢false (sym g)), λ f. refl)
 border_is true true c o = (λ e _ g. absurd (true≢false g), λ f. refl)
 border_is true false c o = (λ e _ _. (and_left c o e, and_right c o e), λ f. both c o (f refl refl).0 (f refl refl).1)
 
-three : (x y z : Bool) → ((x && y && z) ≡ true) ↔ ((x ≡ true) × (y ≡ true) × (z ≡ true))
+pub three : (x y z : Bool) → ((x && y && z) ≡ true) ↔ ((x ≡ true) × (y ≡ true) × (z ≡ true))
 three true true z = (λ e. (refl, refl, e), λ f. f.2)
 three true false z = (λ e. absurd (true≢false (sym e)), λ f. f.1)
 three false y z = (λ e. absurd (true≢false (sym e)), λ f. f.0)
@@ -109,7 +109,7 @@ module _ (axioms : List Axiom) (q : Query) (ex : List ℕ) (t : Role) where
   test_is s m fs fm (atom.Is c u) (test.Link from to out into) h = absurd h
   test_is s m fs fm (atom.Link p u w) (test.Is bit holds) h = absurd h
 
-  list_all-each : {X : Type 0} (f : X → Bool) (xs : List X) → ((x : X) → Contains xs x → f x ≡ true) → list_all f xs ≡ true
+  pub list_all-each : {X : Type 0} (f : X → Bool) (xs : List X) → ((x : X) → Contains xs x → f x ≡ true) → list_all f xs ≡ true
   list_all-each f [] h = refl
   list_all-each f (x ∷ xs) h = both (f x) (list_all f xs) (h x (Contains-first x xs)) (list_all-each f xs (λ y c. h y (Contains-later x y xs c)))
 
@@ -172,23 +172,24 @@ module _ (axioms : List Axiom) (q : Query) (ex : List ℕ) (t : Role) where
           let z = same_from_bits_below (length ex) m 0 fm (pow_pos (length ex)) (λ i l. h i l ∙ sym (bit_at-zero i)) in
           absurd (omega (arith, z, some))
 
-  -- ---- a set splits where the tests say so
-
-  module _ (tests : List AtomTest) (are : AreTestsOf axioms q.atoms ex t tests) (numbering : IsNumbering ex) (few : length ex ≤ 8)
-      (below : ℕ → Bool) (s : ℕ) (fs : s < 2 ^ length ex) (tells : TellsBelow axioms q ex t below s) where
+  module _ (tests : List AtomTest) (are : AreTestsOf axioms q.atoms ex t tests) where
     -- each atom has a test, and each test is of an atom
-    test_for : (a : Atom) → Contains q.atoms a → (x : AtomTest) × Contains tests x × IsTestOf axioms ex t a x
+    pub test_for : (a : Atom) → Contains q.atoms a → (x : AtomTest) × Contains tests x × IsTestOf axioms ex t a x
     test_for a c =
         let l : c.0 < length tests = let n = are.as_many in let k = c.1 in omega (arith, n, k) in
         let e : get_or q.atoms c.0 no_atom ≡ a = get_or_default q.atoms c.0 no_atom a c.1 ∙ c.2 in
         (get_or tests c.0 no_test, Contains-get_or tests c.0 no_test l, subst (λ z. IsTestOf axioms ex t z (get_or tests c.0 no_test)) e (are.each c.0 c.1))
 
-    atom_for : (x : AtomTest) → Contains tests x → (a : Atom) × Contains q.atoms a × IsTestOf axioms ex t a x
+    pub atom_for : (x : AtomTest) → Contains tests x → (a : Atom) × Contains q.atoms a × IsTestOf axioms ex t a x
     atom_for x c =
         let l : c.0 < length q.atoms = let n = are.as_many in let k = c.1 in omega (arith, n, k) in
         let e : get_or tests c.0 no_test ≡ x = get_or_default tests c.0 no_test x c.1 ∙ c.2 in
         (get_or q.atoms c.0 no_atom, Contains-get_or q.atoms c.0 no_atom l, subst (IsTestOf axioms ex t (get_or q.atoms c.0 no_atom)) e (are.each c.0 l))
 
+  -- ---- a set splits where the tests say so
+
+  module _ (tests : List AtomTest) (are : AreTestsOf axioms q.atoms ex t tests) (numbering : IsNumbering ex) (few : length ex ≤ 8)
+      (below : ℕ → Bool) (s : ℕ) (fs : s < 2 ^ length ex) (tells : TellsBelow axioms q ex t below s) where
     byte : (m : ℕ) → m < 2 ^ length ex → m < 2 ^ 8
     byte m h = let p = pow_mono few in omega (arith, p, h)
 
@@ -215,7 +216,7 @@ module _ (axioms : List Axiom) (q : Query) (ex : List ℕ) (t : Role) where
       is_member = (some_member m numbering fm some).1;
       splits = record {
         within = within_is s m same;
-        stands = λ a c. let x = test_for a c in (test_is s m fs fm a x.0 x.2).0 (list_all-Contains (test_stands s m) tests x.0 l.2 x.1);
+        stands = λ a c. let x = test_for tests are a c in (test_is s m fs fm a x.0 x.2).0 (list_all-Contains (test_stands s m) tests x.0 l.2 x.1);
         rest = subst (λ z. FoldsBelow axioms q z t) (set_of_minus ex s m few fs (byte m fm)) ((tells (bit_and s (bit_not w8 m)) less).0 l.1);
       };
     }
@@ -240,7 +241,7 @@ module _ (axioms : List Axiom) (q : Query) (ex : List ℕ) (t : Role) where
       (three (nat_eq (bit_and m s) m) (below (bit_and s (bit_not w8 m))) (list_all (test_stands s m) tests)).1 (
         ap (λ n. nat_eq n m) same ∙ nat_eq_equiv.refl m,
         (tells (bit_and s (bit_not w8 m)) (rest_less m fm same positive)).1 rest,
-        list_all-each (test_stands s m) tests (λ x c. let a = atom_for x c in (test_is s m fs fm a.0 x a.2).1 (subst (λ z. AtomStands axioms (set_of ex s) z t a.0) (sym is_top) (h.splits.stands a.0 a.1))),
+        list_all-each (test_stands s m) tests (λ x c. let a = atom_for tests are x c in (test_is s m fs fm a.0 x a.2).1 (subst (λ z. AtomStands axioms (set_of ex s) z t a.0) (sym is_top) (h.splits.stands a.0 a.1))),
       ),
     )
       where

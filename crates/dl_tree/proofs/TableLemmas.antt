@@ -26,7 +26,7 @@ use Rattle.dl_tree.specs.Folds.{FoldsBy}
 use Rattle.dl_tree.specs.Below.{minus, MayFollow, FoldsBelow, SplitsAtSome, IsClosedIn}
 use Rattle.dl_tree.specs.Each.{IsEach}
 use Rattle.dl_tree.specs.Masks.{place, set_of}
-use Rattle.dl_tree.specs.Tests.{crosses, column, SomeSplit}
+use Rattle.dl_tree.specs.Tests.{crosses, column, AreTops, SomeSplit}
 use Rattle.dl_tree.specs.Rows.{role_at, HasBit, TellsRow, LeadsTo, ChainLeadsTo}
 use Rattle.dl_tree.specs.Plans.{IsPlanFor, IsNext, IsRowFor, TellsBelowFor, FoldsAt, FoldsBelowAt, IsFoldRow}
 use Rattle.dl_tree.specs.Table.{IsRowOf, IsTableOf}
@@ -37,6 +37,7 @@ use Rattle.dl_tree.proofs.DeepLemmas.{Folds-SplitsAtSome, Folds-Chain}
 use Rattle.dl_tree.proofs.MaskLemmas.{member_known, true_one}
 use Rattle.dl_tree.proofs.SubsetLemmas.{set_of_minus}
 use Rattle.dl_tree.proofs.SplitLemmas.{to_some, from_some}
+use Rattle.dl_tree.proofs.TopLemmas.{may_from}
 use Rattle.dl_tree.proofs.NumberingLemmas.{numbering}
 use Rattle.dl_tree.proofs.NeighbourLemmas.{neighbour, no_neighbour}
 use Rattle.dl_tree.proofs.PartLemmas.{part_is_whole, part_le}
@@ -82,32 +83,38 @@ module _ (h : Hierarchy) (axioms : List Axiom) (q : Query) (links : List (ℕ ×
 
   -- ---- members at the role itself
 
-  bases_told : (row : List Bool) → TellsRow (length tests) (λ i. SomeSplit (slice_index_or tests i []) (column below i) s) row
+  bases_told : (tops : List ℕ) (row : List Bool) → AreTops links s tops
+      → TellsRow (length tests) (λ i. SomeSplit (slice_index_or tests i []) (column below i) tops s) row
       → TellsRow (length rs) (λ i. SplitsAtSome axioms q set (role_at rs i)) row
-  bases_told row told =
+  bases_told tops row are told =
       TellsRow-same _ _ (length rs) row same
-      (subst (λ n. TellsRow n (λ i. SomeSplit (slice_index_or tests i []) (column below i) s) row) next.plan.asked.as_many told)
+      (subst (λ n. TellsRow n (λ i. SomeSplit (slice_index_or tests i []) (column below i) tops s) row) next.plan.asked.as_many told)
     where
-      same : (i : ℕ) → i < length rs → SomeSplit (slice_index_or tests i []) (column below i) s ↔ SplitsAtSome axioms q set (role_at rs i)
+      same : (i : ℕ) → i < length rs → SomeSplit (slice_index_or tests i []) (column below i) tops s ↔ SplitsAtSome axioms q set (role_at rs i)
       same i l = (
         λ w. to_some axioms q ex (role_at rs i) (get_or tests i []) (next.plan.asked.each i l) (numbering q) next.plan.few (column below i) s next.fits
-            (next.told i l) w.0 w.1 w.2 w.3,
-        from_some axioms q ex (role_at rs i) (get_or tests i []) (next.plan.asked.each i l) (numbering q) next.plan.few (column below i) s next.fits (next.told i l),
+            (next.told i l) w.0 (are.some w.0 w.1) (are.within w.0 w.1) w.2,
+        λ k.
+            let w = from_some axioms q ex (role_at rs i) (get_or tests i []) (next.plan.asked.each i l) (numbering q) next.plan.few (column below i) s
+            next.fits (next.told i l) k in
+            (w.0, are.each w.0 w.1 w.2 (may_from axioms q ex (role_at rs i) (get_or tests i []) (next.plan.asked.each i l) links next.plan.masks (column below i) s w.0 w.3), w.3),
       )
 
-  pub near : (row : List Bool) → TellsRow (length tests) (λ i. SomeSplit (slice_index_or tests i []) (column below i) s) row
+  pub near : (tops : List ℕ) (row : List Bool) → AreTops links s tops
+      → TellsRow (length tests) (λ i. SomeSplit (slice_index_or tests i []) (column below i) tops s) row
       → list_any (crosses s) links ≡ true → TellsRow (length rs) (FoldsAt axioms q rs s) row
-  near row told e =
+  near tops row are told e =
       let n = neighbour q ex links next.plan.masks s next.fits e in
       TellsRow-same _ _ (length rs) row
-      (λ i l. let f = Folds-SplitsAtSome axioms q set (role_at rs i) n.0 n.1 in (f.1, f.0)) (bases_told row told)
+      (λ i l. let f = Folds-SplitsAtSome axioms q set (role_at rs i) n.0 n.1 in (f.1, f.0)) (bases_told tops row are told)
 
-  pub alone : IsConnected q set → (row found : List Bool) → TellsRow (length tests) (λ i. SomeSplit (slice_index_or tests i []) (column below i) s) row
+  pub alone : IsConnected q set → (tops : List ℕ) (row found : List Bool) → AreTops links s tops
+      → TellsRow (length tests) (λ i. SomeSplit (slice_index_or tests i []) (column below i) tops s) row
       → list_any (crosses s) links ≡ false → TellsRow (length rs) (ChainLeadsTo axioms rs row) found → TellsRow (length rs) (FoldsAt axioms q rs s) found
-  alone connected row found told e led = TellsRow-same _ _ (length rs) found same led
+  alone connected tops row found are told e led = TellsRow-same _ _ (length rs) found same led
     where
       bases : TellsRow (length rs) (λ i. SplitsAtSome axioms q set (role_at rs i)) row
-      bases = bases_told row told
+      bases = bases_told tops row are told
 
       folds : (t : Role) → ((words : ℕ → List Role) × FoldsBy axioms q set t words) ↔ ((r : Role) × Chain (MayFollow axioms) t r × SplitsAtSome axioms q set r)
       folds = Folds-Chain axioms q set (no_neighbour q ex links next.plan.masks s next.fits e) connected (suc (total ex))

@@ -1,7 +1,7 @@
 -- What the atoms of a query ask where some variables of a set stand at one role, as tests of bits. For private
 -- functions.
 use Rattle.std.specs.Prelude.{ℕ, ◌≡◌, ◌≤◌, Bool, true, false, not, ◌&&◌, ◌||◌, List, [], nat_eq, bit_and, slice_index_or}
-use Rattle.std.specs.List.{list_all}
+use Rattle.std.specs.List.{Contains, list_all}
 use Rattle.std.specs.Int.{bit_not, w8}
 use Rattle.dl_tree.specs.declared.atoms.AtomTest.{AtomTest}
 use Rattle.dl_tree.specs.declared.atoms.AtomTest.TheVariants.{Is, Link}
@@ -29,6 +29,16 @@ splits_at tests below s m =
 abbrev pub column : List (List Bool) → ℕ → ℕ → Bool
 column rows i m = slice_index_or (slice_index_or rows m []) i false
 
--- some members of a set may stand at the role
-abbrev pub SomeSplit : List AtomTest → (ℕ → Bool) → ℕ → Type 0
-SomeSplit tests below s = (m : ℕ) × (1 ≤ m) × (m ≤ s) × (splits_at tests below s m ≡ true)
+-- the members of m may stand at a role as far as the role atoms ask, whatever the role
+abbrev pub may_split : List (ℕ × ℕ) → ℕ → ℕ → Bool
+may_split links s m = nat_eq (bit_and m s) m && list_all (λ e. test_stands s m (Link e.0 e.1 true true)) links
+
+-- the sets of members of a set that may stand at a role at all
+pub record AreTops (links : List (ℕ × ℕ)) (s : ℕ) (tops : List ℕ) : Type 0 where
+  pub some : (m : ℕ) → Contains tops m → 1 ≤ m
+  pub within : (m : ℕ) → Contains tops m → m ≤ s
+  pub each : (m : ℕ) → 1 ≤ m → m ≤ s → may_split links s m ≡ true → Contains tops m
+
+-- some of these sets of members may stand at the role
+abbrev pub SomeSplit : List AtomTest → (ℕ → Bool) → List ℕ → ℕ → Type 0
+SomeSplit tests below tops s = (m : ℕ) × Contains tops m × (splits_at tests below s m ≡ true)

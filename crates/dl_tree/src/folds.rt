@@ -13,7 +13,7 @@ ghost use Rattle.dl_tree.specs.Table.{IsRowOf, IsTableOf};
 ghost use Rattle.dl_tree.specs.declared.atoms.AtomTest.{AtomTest as Test};
 ghost use Rattle.dl_tree.specs.Plans.{IsNext, FoldsAt, FoldsBelowAt, IsFoldRow};
 
-use crate::atoms::AtomTest;
+use crate::atoms::{AtomTest, tops};
 use crate::masks::{has_neighbour, is_connected, part_of};
 use crate::rows::{bases, both, filled, followed, led, picked};
 use dl_hier::Hier;
@@ -55,7 +55,8 @@ fn connected_row(
         IsConnected q (set_of (existential_variables q) s) →
         IsFoldRow axioms q (roles hier.now.predicates) s row) }
 {
-    let row = bases(alloc, tests, below, s)?;
+    let tops = tops(alloc, links, s)?;
+    let row = bases(alloc, tests, below, s, &tops)?;
     if has_neighbour(links, s) {
         return Ok(row);
     }

@@ -51,19 +51,20 @@ fn are_set(rows: &[List<bool>], one: usize, other: usize, index: usize) -> bool
     is_set(rows, one, index) && is_set(rows, other, index)
 }
 
-/// For each role whether some members of the set may stand at it, while the rest folds below it.
+/// For each role whether some of these sets of members may stand at it, while the rest of `s` folds below it.
 pub(crate) fn bases(
     alloc: Global,
     tests: &[List<AtomTest>],
     below: &[List<bool>],
     s: u8,
+    tops: &[u8],
 ) -> Result<List<bool>, NoMemory>
     ensures { IfOk result (TellsRow (length tests.now)
-        (λ i. SomeSplit (slice_index_or tests.now i []) (column below.now i) s)) }
+        (λ i. SomeSplit (slice_index_or tests.now i []) (column below.now i) tops.now s)) }
 {
     let mut row = List::new(alloc);
     for (i, own) in tests.iter().enumerate() {
-        row.push(splits(own.as_slice(), below, i, s))?;
+        row.push(splits(own.as_slice(), below, i, s, tops))?;
     }
     Ok(row)
 }
