@@ -1,11 +1,13 @@
 -- Rows of roles from which a role of another row is reached: in one step, and by chains.
-use Rattle.std.proofs.Common.{◌≡◌, ℕ, ◌+◌, ◌<◌, ◌⊎◌, ◌↔◌, inl, inr, Bool, true, false, not, cond, List, length, set, get_or, refl, sym, ap, subst, ◌∙◌, arith, get_or-set_other, true≢false}
+use Rattle.std.proofs.Common.{◌≡◌, ℕ, ◌+◌, ◌<◌, ◌⊎◌, ◌↔◌, inl, inr, Bool, true, false, not, cond, List, [], ◌∷◌, ◌++◌, length, set, get_or, refl, sym, ap, subst, ◌∙◌, arith, get_or-set_other, true≢false}
 use Rattle.std.specs.List.{Contains, count_by}
 use Rattle.std.specs.List.Sorted.{IsStrictlySortedBy}
 use Rattle.std.proofs.lemmas.List.Sums.{sum_by-set}
 use Rattle.std.proofs.lemmas.Bool.{cases_eq}
 use Rattle.std.proofs.lemmas.List.{get_or_default}
-use Rattle.std.proofs.lemmas.List.Elements.{Contains-get_or}
+use Rattle.std.proofs.lemmas.List.Elements.{Contains-get_or, Contains-push_cases}
+use Rattle.dl_terms.proofs.MemberLemmas.{Contains-nil}
+use Rattle.dl_terms.proofs.BelowLemmas.{Chain-trans}
 use Rattle.dl_terms.specs.Chain.{Chain, empty, step}
 use Rattle.dl_terms.specs.Order.{role_cmp}
 use Rattle.dl_terms.specs.Roles.{named, inverse_of}
@@ -18,7 +20,7 @@ use Rattle.dl_hier.specs.Predicates.{Predicates, roles}
 use Rattle.dl_hier.proofs.SortedLemmas.{one_index}
 use Rattle.dl_hier.proofs.PredicateLemmas.{inverse-known}
 use Rattle.dl_tree.specs.Below.{MayFollow}
-use Rattle.dl_tree.specs.Rows.{role_at, HasBit, TellsRow, ChainLeadsTo}
+use Rattle.dl_tree.specs.Rows.{role_at, HasBit, TellsRow, IsBelowSomeOf, ChainLeadsTo}
 use Rattle.dl_tree.proofs.FoldLemmas.{not_both}
 use Rattle.dl_tree.proofs.RowLemmas.{TellsRow-same}
 
@@ -78,6 +80,31 @@ module _ (axioms : List Axiom) (rs : List Role) (row : List Bool) where
       by : (i : ℕ) (h : LeadsBelow (m + 1) i) → (h.0 < m) ⊎ (h.0 ≡ m) → LeadsBelow m i
       by i h (inl k) = (h.0, k, h.2, h.3)
       by i h (inr e) = absurd (none (subst (HasBit row) e h.2))
+
+  -- what may follow into one of these roles is there
+  abbrev pub AllLead : List Bool → List Role → Type 0
+  AllLead found tops = (r : Role) → Contains tops r → (i : ℕ) → i < length rs → MayFollow axioms (role_at rs i) r → HasBit found i
+
+  pub all_lead_none : (found : List Bool) (tops : List Role) → tops ≡ [] → AllLead found tops
+  all_lead_none found tops none r c = absurd (Contains-nil r (subst (λ l. Contains l r) none c))
+
+  pub all_lead_next : (m : ℕ) (found new : List Bool) (tops more : List Role) → AllLead found tops
+      → TellsRow (length rs) (λ i. HasBit found i ⊎ MayFollow axioms (role_at rs i) (role_at rs m)) new → more ≡ tops ++ role_at rs m ∷ [] → AllLead new more
+  all_lead_next m found new tops more lead told pushed r c i l follow =
+      (told.each i l).1 (by (Contains-push_cases tops (role_at rs m) r (subst (λ z. Contains z r) pushed c)))
+    where
+      by : Contains tops r ⊎ (role_at rs m ≡ r) → HasBit found i ⊎ MayFollow axioms (role_at rs i) (role_at rs m)
+      by (inl k) = inl (lead r k i l follow)
+      by (inr e) = inr (subst (MayFollow axioms (role_at rs i)) (sym e) follow)
+
+  -- where "some" of a role is below "some" of one of these, nothing has to be put to the row
+  pub covered : (m : ℕ) (found : List Bool) (tops : List Role) → length found ≡ length rs → AllLead found tops → IsBelowSomeOf axioms tops (role_at rs m)
+      → TellsRow (length rs) (λ i. HasBit found i ⊎ MayFollow axioms (role_at rs i) (role_at rs m)) found
+  covered m found tops len lead below = record { as_many = len; each = λ i l. (λ h. inl h, by i l) }
+    where
+      by : (i : ℕ) → i < length rs → HasBit found i ⊎ MayFollow axioms (role_at rs i) (role_at rs m) → HasBit found i
+      by i l (inl h) = h
+      by i l (inr f) = lead below.0 below.1 i l (Chain-trans f below.2)
 
   -- ---- chains
 

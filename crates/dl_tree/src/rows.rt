@@ -9,7 +9,7 @@ ghost use Rattle.dl_hier.specs.Hierarchy.{IsHierarchyOf};
 ghost use Rattle.dl_hier.specs.Picking.{ArePicked};
 ghost use Rattle.dl_tree.specs.Below.{MayFollow};
 ghost use Rattle.dl_tree.specs.Tests.{column, SomeSplit};
-ghost use Rattle.dl_tree.specs.Rows.{role_at, HasBit, TellsRow, LeadsTo, ChainLeadsTo};
+ghost use Rattle.dl_tree.specs.Rows.{role_at, HasBit, TellsRow, IsBelowSomeOf, LeadsTo, ChainLeadsTo};
 
 use crate::atoms::{AtomTest, has_bit, is_set, splits};
 use dl_hier::Hier;
@@ -77,12 +77,40 @@ pub(crate) fn followed(alloc: Global, hier: &Hier, row: &[bool]) -> Result<List<
 {
     let roles = hier.roles();
     let mut found = filled(alloc, roles.len(), false)?;
+    let mut tops = List::new(alloc);
     for i in 0..roles.len() {
-        if has_bit(row, i) {
+        if needs_pass(hier, row, i, roles[i], tops.as_slice()) {
             found = with_leading(alloc, hier, found.as_slice(), roles[i])?;
+            tops.push(roles[i])?;
         }
     }
     Ok(found)
+}
+
+/// Whether a role is one of the row, and new.
+fn needs_pass(hier: &Hier, row: &[bool], index: usize, role: Role, tops: &[Role]) -> bool
+    ensures yes { result ≡ true → HasBit row.now index }
+    ensures no { result ≡ false → HasBit row.now index → (axioms : Items Axiom) →
+        IsHierarchyOf hier.now axioms → IsBelowSomeOf axioms tops.now role }
+{
+    if has_bit(row, index) {
+        return is_new(hier, role, tops);
+    }
+    false
+}
+
+/// Whether "some" of a role is below "some" of none of these roles: where it is below one, whatever the role may follow
+/// leads to that one too.
+fn is_new(hier: &Hier, role: Role, tops: &[Role]) -> bool
+    ensures { result ≡ false → (axioms : Items Axiom) → IsHierarchyOf hier.now axioms →
+        IsBelowSomeOf axioms tops.now role }
+{
+    for top in tops {
+        if hier.basic_below(Basic::SomeOf(role), Basic::SomeOf(*top)) {
+            return false;
+        }
+    }
+    true
 }
 
 /// For each role whether a chain of roles, of which each may follow the one before it, leads to a role of the row.
@@ -94,8 +122,12 @@ pub(crate) fn led(alloc: Global, hier: &Hier, row: &[bool]) -> Result<List<bool>
     let roles = hier.roles();
     let mut found = copied(alloc, row, roles.len())?;
     let mut done = unmarked(alloc, roles.len())?;
+    let mut tops = List::new(alloc);
     while let Some(i) = pending(found.as_slice(), &done) {
-        found = with_leading(alloc, hier, found.as_slice(), roles[i])?;
+        if is_new(hier, roles[i], tops.as_slice()) {
+            found = with_leading(alloc, hier, found.as_slice(), roles[i])?;
+            tops.push(roles[i])?;
+        }
         done[i] = true;
     }
     Ok(found)
