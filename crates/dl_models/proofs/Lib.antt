@@ -5,3 +5,4 @@ pub mod SearchLemmas
 pub mod MapLemmas
 pub mod QueryLemmas
 pub mod CanonicalLemmas
+pub mod LoopLemmas

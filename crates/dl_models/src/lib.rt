@@ -2,7 +2,10 @@
 // structure to all finite models.
 #![tactic(auto)]
 
+mod elements;
 mod interp;
 pub mod laws;
+mod pairs;
+mod sets;
 
 pub use interp::Interp;
