@@ -6,3 +6,5 @@ pub mod MapLemmas
 pub mod QueryLemmas
 pub mod CanonicalLemmas
 pub mod LoopLemmas
+pub mod OperandLemmas
+pub mod AcceptLemmas

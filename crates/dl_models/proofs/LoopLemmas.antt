@@ -8,7 +8,7 @@ use Rattle.std.proofs.lemmas.List.Elements.{All-push}
 pub fails : {P : Type 0} (b : Bool) → (b ≡ true) ↔ P → b ≡ false → ¬ P
 fails b exact e h = true≢false (sym (exact.1 h) ∙ e)
 
-below_or_at : (k n : ℕ) → k < n + 1 → (k < n) ⊎ (n ≡ k)
+pub below_or_at : (k n : ℕ) → k < n + 1 → (k < n) ⊎ (n ≡ k)
 below_or_at k n lt = grind arith
 
 module _ (P : ℕ → Type 0) where

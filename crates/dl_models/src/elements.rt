@@ -17,7 +17,7 @@ pub(crate) fn is_in(model: &Interp, class: u32, x: u32) -> bool
 }
 
 /// Whether an object property links two elements.
-fn is_link(model: &Interp, role: u32, x: u32, y: u32) -> bool
+pub(crate) fn is_link(model: &Interp, role: u32, x: u32, y: u32) -> bool
     ensures { IsTrue result ↔ Contains model.now.links (role, x, y) }
 {
     model.links.as_slice().contains(&(role, x, y))

@@ -2,9 +2,12 @@
 // structure to all finite models.
 #![tactic(auto)]
 
+mod axioms;
 mod elements;
+mod facts;
 mod interp;
 pub mod laws;
+mod operands;
 mod pairs;
 mod sets;
 
