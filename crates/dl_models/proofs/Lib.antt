@@ -8,3 +8,5 @@ pub mod CanonicalLemmas
 pub mod LoopLemmas
 pub mod OperandLemmas
 pub mod AcceptLemmas
+pub mod ValueLemmas
+pub mod MatchLemmas

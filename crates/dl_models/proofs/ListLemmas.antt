@@ -42,7 +42,7 @@ All-of_map P f [] all = All-nil (λ x. P (f x))
 All-of_map P f (x ∷ xs) all =
     All-cons (λ x. P (f x)) x xs (All-head P (f x) (map f xs) all) (All-of_map P f xs (All-tail P (f x) (map f xs) all))
 
-All-split : {A : Type 0} (P : A → Type 0) (xs ys : List A) → All P (xs ++ ys) → All P xs × All P ys
+pub All-split : {A : Type 0} (P : A → Type 0) (xs ys : List A) → All P (xs ++ ys) → All P xs × All P ys
 All-split P [] ys all = (All-nil P, all)
 All-split P (x ∷ xs) ys all =
     let rest = All-split P xs ys (All-tail P x (xs ++ ys) all) in

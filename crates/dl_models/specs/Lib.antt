@@ -1,3 +1,4 @@
 pub mod Finite
 pub mod Meaning
 pub mod Structures
+pub mod Values

@@ -22,6 +22,13 @@ impl Interp {
     }
 }
 
+/// Whether a name has an element.
+pub(crate) fn is_named(model: &Interp, name: u32, x: u32) -> bool
+    ensures { IsTrue result ↔ Contains model.now.names (name, x) }
+{
+    model.names.as_slice().contains(&(name, x))
+}
+
 /// What a key first stands beside in a list of pairs.
 pub(crate) fn look_up(pairs: &[(u32, u32)], key: u32) -> Option<u32>
     ensures { MatchOption result ((x : ℕ) → ¬ Contains pairs.now (key, x)) (λ x. Contains pairs.now (key, x)) }

@@ -9,6 +9,8 @@ mod interp;
 pub mod laws;
 mod operands;
 mod pairs;
+mod queries;
 mod sets;
+mod values;
 
 pub use interp::Interp;
