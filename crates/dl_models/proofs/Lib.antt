@@ -10,3 +10,4 @@ pub mod OperandLemmas
 pub mod AcceptLemmas
 pub mod ValueLemmas
 pub mod MatchLemmas
+pub mod PartLemmas

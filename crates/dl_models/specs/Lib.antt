@@ -2,3 +2,4 @@ pub mod Finite
 pub mod Meaning
 pub mod Structures
 pub mod Values
+pub mod Parts

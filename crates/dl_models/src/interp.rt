@@ -3,6 +3,7 @@ ghost use Rattle.dl_models.specs.Finite.{IsInterpretation};
 use dl_terms::List;
 
 /// A finite interpretation. Its elements are the numbers below `size`, which is at least 1.
+#[derive(Drop)]
 pub struct Interp {
     pub size: u32,
     /// The element of each name; a name stands here at most once.

@@ -7,6 +7,7 @@ mod elements;
 mod facts;
 mod interp;
 pub mod laws;
+mod made;
 mod operands;
 mod pairs;
 mod queries;
