@@ -1,0 +1,7 @@
+pub mod CountLemmas
+pub mod OrderedLemmas
+pub mod RowLemmas
+pub mod MergeLemmas
+pub mod SearchLemmas
+pub mod FindLemmas
+pub mod ScanLemmas

@@ -1,0 +1,160 @@
+// The plain shard.
+ghost use Rattle.std.specs.Prelude.{◌≡◌, ◌+◌, ◌++◌, ◌<◌, ◌≤◌, [], length, map, filter, slice_get, All, IfOk, OnOk, OnErr};
+ghost use Rattle.std.specs.List.{position};
+ghost use Rattle.std.specs.List.Sorted.{IsStrictlyIncreasing};
+ghost use Rattle.dl_row.specs.Lists.{Ascends, ordered, left_of};
+ghost use Rattle.dl_row.specs.Rows.{row_cmp, visible};
+ghost use Rattle.dl_row.specs.Shards.{max_rows, is_at, is_open_at, ends_of, scanned, AddsSome};
+ghost use Rattle.dl_row.specs.Searching.{Divides, least_with};
+
+use crate::merge::merged;
+use crate::search::{least_with, place_of, run};
+use crate::{Kind, OPEN, Row};
+use dl_intervals::Intervals;
+use dl_terms::{List, NoMemory, Pair, Steps};
+use std::alloc::Global;
+use std::marker::Model;
+use std::sync::ledger::Ledger;
+
+/// A list of at most 4,194,304 rows in order. Contracts see it as that list.
+#[derive(Drop)]
+pub struct PlainShard {
+    rows: Vec<Row>,
+}
+
+impl Model for PlainShard {
+    ghost use Rattle.std.specs.Prelude.{List as Items, ◌≤◌, length};
+    ghost use Rattle.dl_row.specs.Lists.{Ascends};
+    ghost use Rattle.dl_row.specs.Rows.{row_cmp};
+    ghost use Rattle.dl_row.specs.Shards.{max_rows};
+    ghost use Rattle.dl_row.specs.declared.row.Row.{Row};
+
+    ghost Value = { Items Row };
+
+    ghost view = { λ shard. shard.rows.items };
+
+    ghost invariant = { λ shard. Ascends row_cmp shard.rows.items × (length shard.rows.items ≤ max_rows) };
+}
+
+impl PlainShard {
+    /// No row. It takes no memory.
+    pub fn empty(alloc: Global) -> PlainShard
+        ensures { result ≡ [] }
+    {
+        PlainShard {
+            rows: Vec::new(alloc),
+        }
+    }
+
+    /// How many rows there are. It takes no memory.
+    pub fn len(&self) -> u64
+        ensures count { result ≡ length self.now }
+        ensures up { Ascends row_cmp self.now }
+        ensures most { result ≤ max_rows }
+    {
+        self.rows.len() as u64
+    }
+
+    /// The row at a place, from 0. It takes no memory.
+    pub fn row(&self, i: u64) -> Row
+        requires { i < length self.now }
+        ensures { slice_get self.now i ≡ Some result }
+    {
+        self.rows[i as usize]
+    }
+
+    /// The place of the first open row with these fields, or `None` where there is none. It takes no memory.
+    pub fn find(&self, epoch: u32, kind: Kind, number: u32, s: u32, o: u32) -> Option<u64>
+        ensures { result ≡ position (is_open_at epoch kind number s o) self.now }
+    {
+        let least = least_with(epoch, kind, number, s, o);
+        first_open(&self.rows, place_of(&self.rows, &least), &least)
+    }
+
+    /// This shard's rows but those at some places, and new rows, in order. The places ascend strictly and are in
+    /// range, the new rows stand in any order, and the result has at most 4,194,304 rows. It fails only for want of
+    /// memory.
+    pub fn with(&self, alloc: Global, without: &[u64], new: &[Row]) -> Result<PlainShard, NoMemory>
+        requires ascending { IsStrictlyIncreasing without.now }
+        requires within { All (λ place. place < length self.now) without.now }
+        requires fits { length (left_of without.now self.now) + length new.now ≤ max_rows }
+        ensures { IfOk result (λ shard. shard ≡ ordered row_cmp (left_of without.now self.now ++ new.now)) }
+    {
+        let mut added = Vec::from_slice(alloc, new)?;
+        added.sort_unstable();
+        let rows = merged(alloc, &self.rows, without, &added)?;
+        Ok(PlainShard { rows })
+    }
+
+    /// Appends `(s, o)` of exactly the rows of an epoch and a kind that are visible at a version and whose number is
+    /// in the ranges, in order. A step is one row looked at. It fails only for want of memory; then `out` has a prefix
+    /// of that more.
+    pub fn scan<L: Ledger>(
+        &self,
+        epoch: u32,
+        kind: Kind,
+        ranges: &Intervals,
+        version: u32,
+        out: &mut List<Pair>,
+        steps: &mut Steps<L>,
+    ) -> Result<(), NoMemory>
+        ensures ok { OnOk result (out.new ≡ out.old ++ scanned epoch kind ranges.now version self.now) }
+        ensures err { OnErr result (AddsSome out.old out.new (scanned epoch kind ranges.now version self.now)) }
+    {
+        let rows = self.rows.as_slice();
+        for i in 0..ranges.len() {
+            let found = run(rows, epoch, kind, ranges.get(i), steps);
+            push_visible(found, version, out, steps)?;
+        }
+        Ok(())
+    }
+}
+
+/// The place of the first open row from a place on that has the five fields of another row, as long as rows have them.
+fn first_open(rows: &[Row], from: usize, like: &Row) -> Option<u64>
+    requires up { Ascends row_cmp rows.now }
+    requires least { like.now ≡ least_with like.now.epoch like.now.kind like.now.number like.now.s like.now.o }
+    requires divides { Divides like.now rows.now from }
+    ensures { result ≡ position
+        (is_open_at like.now.epoch like.now.kind like.now.number like.now.s like.now.o) rows.now }
+{
+    for i in from..rows.len() {
+        if !is_like(&rows[i], like) {
+            return None;
+        }
+        if rows[i].last == OPEN {
+            return Some(i as u64);
+        }
+    }
+    None
+}
+
+/// Whether a row has the five fields of another one.
+fn is_like(row: &Row, like: &Row) -> bool
+    ensures { result ≡ is_at like.now.epoch like.now.kind like.now.number like.now.s like.now.o row.now }
+{
+    row.epoch == like.epoch
+        && row.kind.number() == like.kind.number()
+        && row.number == like.number
+        && row.s == like.s
+        && row.o == like.o
+}
+
+/// Appends the ends of the rows that are visible at a version: each row is a step.
+fn push_visible<L: Ledger>(
+    rows: &[Row],
+    version: u32,
+    out: &mut List<Pair>,
+    steps: &mut Steps<L>,
+) -> Result<(), NoMemory>
+    ensures ok { OnOk result (out.new ≡ out.old ++ map ends_of (filter (visible version) rows.now)) }
+    ensures err { OnErr result (AddsSome out.old out.new (map ends_of (filter (visible version) rows.now))) }
+{
+    for row in rows {
+        steps.tick();
+        if row.visible(version) {
+            out.push((row.s, row.o))?;
+        }
+    }
+    Ok(())
+}
