@@ -174,6 +174,16 @@ pub length-ordered : {A : Type 0} (cmp : A → A → Ordering) (xs : List A) →
 length-ordered cmp [] = refl
 length-ordered cmp (x ∷ xs) = length-put cmp x (ordered cmp xs) ∙ ap suc (length-ordered cmp xs)
 
+-- what is left of a list isn't longer
+pub length-left_from_le : {A : Type 0} (i : ℕ) (places : List ℕ) (xs : List A) → length (left_from i places xs) ≤ length xs
+length-left_from_le i places [] = omega arith
+length-left_from_le {A} i places (x ∷ xs) = by (list_any (λ p. p == i) places) (length-left_from_le (suc i) places xs)
+  where
+    by : (b : Bool) → length (left_from (suc i) places xs) ≤ length xs
+        → length (cond b (left_from (suc i) places xs) (x ∷ left_from (suc i) places xs)) ≤ suc (length xs)
+    by true ih = omega (arith, ih)
+    by false ih = omega (arith, ih)
+
 -- ---- a list in order is determined by its counts
 
 module _ {A : Type 0} {cmp : A → A → Ordering} (l : IsLinear cmp) where

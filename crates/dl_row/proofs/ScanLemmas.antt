@@ -229,22 +229,7 @@ scanned-none epoch kind version (r ∷ rows) =
     by true false = refl
     by false b = refl
 
--- ---- the visible rows of a slice, one after the other
-
-module _ (version : ℕ) (run : List Row) (i : ℕ) (row : Row) (inside : i < length run) (read : row ≡ get_or run i row) where
-  pub ends-more : (old now new : List (ℕ × ℕ)) → now ≡ old ++ map ends_of (filter (visible version) (take i run))
-      → new ≡ now ++ cond (visible version row) (ends_of row ∷ []) [] → new ≡ old ++ map ends_of (filter (visible version) (take (i + 1) run))
-  ends-more old now new e pushed =
-      pushed ∙ ap (λ ys. ys ++ cond (visible version row) (ends_of row ∷ []) []) e
-      ∙ append_assoc old (map ends_of (filter (visible version) (take i run))) (cond (visible version row) (ends_of row ∷ []) [])
-      ∙ ap (λ ys. old ++ ys)
-      (ap (λ ys. map ends_of (filter (visible version) (take i run)) ++ ys) (by (visible version row))
-      ∙ sym (map-append ends_of (filter (visible version) (take i run)) (cond (visible version row) (row ∷ []) []))
-      ∙ ap (map ends_of) (sym (filter_more (visible version) run i row inside ∙ ap (λ x. filter (visible version) (take i run) ++ cond (visible version x) (x ∷ []) []) (sym read))))
-    where
-      by : (b : Bool) → cond b (ends_of row ∷ []) [] ≡ map ends_of (cond b (row ∷ []) [])
-      by true = refl
-      by false = refl
+-- ---- the visible rows of a slice
 
 pub ends-part : (version : ℕ) (run : List Row) (i : ℕ) (old now : List (ℕ × ℕ)) → now ≡ old ++ map ends_of (filter (visible version) (take i run))
     → AddsSome old now (map ends_of (filter (visible version) run))
