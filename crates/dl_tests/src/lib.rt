@@ -26,6 +26,7 @@ mod query;
 mod reach;
 #[cfg(test)]
 mod refusals;
+mod row;
 #[cfg(test)]
 mod run;
 #[cfg(test)]
