@@ -1,5 +1,5 @@
 // Names and their numbers.
-ghost use Rattle.std.specs.Prelude.{◌≡◌, ◌≤◌, length, Contains, IfOk, MatchOption};
+ghost use Rattle.std.specs.Prelude.{◌≡◌, ◌≤◌, ℕ, length, Contains, IfOk, IfSome, MatchOption};
 ghost use Rattle.std.specs.List.Sorted.{IsStrictlyIncreasing};
 ghost use Rattle.dl_reach.specs.Digraph.{max_nodes};
 ghost use Rattle.dl_numbers.specs.Numbers.{HasNumber, IsBelow};
@@ -44,7 +44,9 @@ impl Numbering {
 
     /// The number of a name, or `None` where it isn't among the names. It takes no memory.
     pub fn number(&self, name: u32) -> Option<u32>
-        ensures { MatchOption result (Contains self.now name → ⊥) (HasNumber self.now name) }
+        ensures number { MatchOption result (Contains self.now name → ⊥) (HasNumber self.now name) }
+        ensures only { IfSome result (λ n. (m : ℕ) → HasNumber self.now name m → m ≡ n) }
+        ensures few { IfSome result (λ n. n ≤ max_nodes) }
     {
         match self.names.binary_search(&name) {
             Ok(place) => Some(place as u32 + 1),

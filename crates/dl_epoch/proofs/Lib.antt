@@ -1,0 +1,5 @@
+pub mod KnownLemmas
+pub mod FewLemmas
+pub mod EpochLemmas
+pub mod FrozenLemmas
+pub mod CoveringLemmas

@@ -1,0 +1,4 @@
+pub mod Known
+pub mod Frozen
+pub mod Translating
+pub mod Covering

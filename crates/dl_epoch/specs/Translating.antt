@@ -1,0 +1,16 @@
+-- Names as numbers of an epoch.
+use Rattle.std.specs.Prelude.{ℕ, ◌↔◌, List}
+use Rattle.std.specs.List.{Contains}
+use Rattle.dl_intervals.specs.Intervals.{Holds, IsIntervalList}
+use Rattle.dl_numbers.specs.Numbers.{HasNumber}
+
+-- a number that one of some names has
+pub record IsNumberOf (numbered members : List ℕ) (number : ℕ) : Type 0 where
+  pub name : ℕ
+  pub member : Contains members name
+  pub has : HasNumber numbered name number
+
+-- the intervals of exactly the numbers of those names that have one
+pub record AreNumbersOf (numbered members : List ℕ) (ranges : List (ℕ × ℕ)) : Type 0 where
+  pub sorted : IsIntervalList ranges
+  pub exact : (n : ℕ) → Holds ranges n ↔ IsNumberOf numbered members n
