@@ -19,13 +19,20 @@ mod names;
 #[cfg(test)]
 mod normal;
 #[cfg(test)]
+mod ontology;
+#[cfg(test)]
 mod owl;
+#[cfg(test)]
+mod owl_faults;
+#[cfg(test)]
+mod owl_refused;
 #[cfg(test)]
 mod query;
 #[cfg(test)]
 mod reach;
 #[cfg(test)]
 mod refusals;
+#[cfg(test)]
 mod row;
 #[cfg(test)]
 mod run;
