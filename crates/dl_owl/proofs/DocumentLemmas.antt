@@ -1,4 +1,4 @@
--- Steps of a reader of ontology documents: tokens that fit, prefixes that are declared, and loops over what stands next.
+-- Steps of a reader of ontology documents: tokens that fit, prefixes that are declared, and loops over what is next.
 use Rattle.std.proofs.Common.{◌≡◌, ◌≢◌, ℕ, false, cond, inr, Result, Ok, Err, IsErrAnd, List, [], ◌∷◌, ◌++◌, refl, sym, ap, ◌∙◌, subst, slice_range}
 use Rattle.std.proofs.lemmas.Result.{err_from_is_err_and}
 use Rattle.dl_lex.specs.declared.token.TokenKind.{TokenKind}

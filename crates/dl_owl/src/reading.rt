@@ -15,7 +15,7 @@ use std::alloc::Global;
 
 /// Reads an ontology document of OWL 2 QL in the functional-style syntax. Names are places in the name set, by first
 /// occurrence. The fault is that of the first token at which reading can't go on. Memory is all else that may be
-/// wanting.
+/// wanting. Of the names after an error no clause speaks.
 pub fn read_ontology(alloc: Global, bytes: &[u8], names: &mut NameSet) -> Result<Document, OwlFault>
     ensures value { IfOk result (λ document.
         ReadsValue bytes.now prologue names.old document names.new) }
@@ -38,7 +38,7 @@ pub fn read_ontology(alloc: Global, bytes: &[u8], names: &mut NameSet) -> Result
     }
 }
 
-/// Reads one axiom alone, with the predefined prefixes.
+/// Reads one axiom alone, with the predefined prefixes. Its names and its fault are told as those of an ontology are.
 pub fn read_axiom(alloc: Global, bytes: &[u8], names: &mut NameSet) -> Result<Document, OwlFault>
     ensures value { IfOk result (λ document.
         ReadsValue bytes.now lone_axiom names.old document names.new) }
