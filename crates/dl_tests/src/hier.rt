@@ -1,8 +1,7 @@
-ghost use Rattle.std.specs.Prelude.{◌<◌, ◌^◌, length, IfOk};
-
+use crate::axioms::{Row, axioms_of, list_of};
 use dl_hier::{Hier, MAX_PREDICATES, fits};
 use dl_normal::normal;
-use dl_terms::{Axiom, Base, Basic, List, NoMemory, Part, Role, Signature};
+use dl_terms::{Base, Basic, NoMemory, Normal, Part, Role, Signature};
 use std::alloc::{AllocError, Global};
 use std::test::Fail;
 
@@ -81,34 +80,16 @@ const UNKNOWN: Role = Role {
     inverse: false,
 };
 
-fn list_of<X: Copy + Drop>(alloc: Global, items: &[X]) -> Result<List<X>, AllocError> {
-    Ok(List::of(Vec::from_slice(alloc, items)?))
-}
-
 /// P in the inverse of Q, the inverse of R in Q, S symmetric, R and T equivalent, the class 0 in some P in 1, some Q
 /// in 2.
-fn axioms_of(alloc: Global) -> Result<List<Axiom>, NoMemory> {
-    let mut axioms = List::new(alloc);
-    axioms.push(Axiom::SubRole {
-        sub: P,
-        sup: Q_INVERSE,
-    })?;
-    axioms.push(Axiom::SubRole {
-        sub: R_INVERSE,
-        sup: Q,
-    })?;
-    axioms.push(Axiom::Symmetric(S))?;
-    axioms.push(Axiom::EquivalentRoles(list_of(alloc, &[R, T])?))?;
-    axioms.push(Axiom::SubClass {
-        sub: Basic::Class(0),
-        sup: list_of(alloc, &[Part::Fill(P, 1)])?,
-    })?;
-    axioms.push(Axiom::Domain {
-        role: Q,
-        sup: list_of(alloc, &[Part::Class(2)])?,
-    })?;
-    Ok(axioms)
-}
+const AXIOMS: &[Row] = &[
+    Row::SubRole(P, Q_INVERSE),
+    Row::SubRole(R_INVERSE, Q),
+    Row::Symmetric(S),
+    Row::EquivalentRoles(&[R, T]),
+    Row::SubClass(Basic::Class(0), &[Part::Fill(P, 1)]),
+    Row::Domain(Q, &[Part::Class(2)]),
+];
 
 fn signature_of(alloc: Global, roles: &[u32]) -> Result<Signature, AllocError> {
     Ok(Signature {
@@ -117,16 +98,23 @@ fn signature_of(alloc: Global, roles: &[u32]) -> Result<Signature, AllocError> {
     })
 }
 
-/// The hierarchy of axioms over a signature, or none where it can't be built.
-fn hier_of(alloc: Global, axioms: &[Axiom], signature: &Signature) -> Result<Option<Hier>, NoMemory>
-    requires { length axioms.now < 2 ^ 32 }
-{
-    let rows = normal(alloc, axioms)?;
-    let fit = fits(alloc, &rows, signature)?;
-    if !fit {
+/// The normal form of the axioms, of which there are six.
+fn normal_of(alloc: Global) -> Result<Option<Normal>, NoMemory> {
+    let axioms = axioms_of(alloc, AXIOMS)?;
+    if axioms.len() != 6 {
         return Ok(None);
     }
-    let hier = Hier::build(alloc, &rows, signature)?;
+    let normal = normal(alloc, axioms.as_slice())?;
+    Ok(Some(normal))
+}
+
+/// The hierarchy of a normal form over three classes and these roles, or none where it can't be built.
+fn hier_of(alloc: Global, normal: &Normal, roles: &[u32]) -> Result<Option<Hier>, NoMemory> {
+    let signature = signature_of(alloc, roles)?;
+    if !fits(alloc, normal, &signature)? {
+        return Ok(None);
+    }
+    let hier = Hier::build(alloc, normal, &signature)?;
     Ok(Some(hier))
 }
 
@@ -237,26 +225,46 @@ fn has_roles_of_the_filler(alloc: Global, hier: &Hier) -> Result<bool, NoMemory>
     )
 }
 
+/// Whether a hierarchy is that of the axioms in all that it tells.
+fn agrees(alloc: Global, hier: &Hier) -> Result<bool, NoMemory> {
+    if !agrees_on_roles(hier) || !agrees_on_basics(hier) || hier.roles() != ALL_ROLES.as_slice() {
+        return Ok(false);
+    }
+    Ok(
+        has_predicates_below(alloc, hier)?
+            && has_roles_below(alloc, hier)?
+            && has_roles_of_the_filler(alloc, hier)?,
+    )
+}
+
+/// Whether the hierarchy over all five roles agrees with the definition.
+fn agrees_with_the_definition(alloc: Global) -> Result<bool, NoMemory> {
+    let Some(normal) = normal_of(alloc)? else {
+        return Ok(false);
+    };
+    match hier_of(alloc, &normal, &[10, 11, 12, 13, 14])? {
+        Some(hier) => agrees(alloc, &hier),
+        None => Ok(false),
+    }
+}
+
+/// Whether there is no hierarchy over all roles but the last.
+fn wants_all_roles(alloc: Global) -> Result<bool, NoMemory> {
+    let Some(normal) = normal_of(alloc)? else {
+        return Ok(false);
+    };
+    Ok(hier_of(alloc, &normal, &[10, 11, 12, 13])?.is_none())
+}
+
 #[test]
 fn hierarchies_agree_with_the_definition(rt: HostRuntime) -> Result<(), Fail> {
-    let axioms = axioms_of(rt.alloc())?;
-    assert!(rt; axioms.len() == 6);
-    let signature = signature_of(rt.alloc(), &[10, 11, 12, 13, 14])?;
-    let hier = hier_of(rt.alloc(), axioms.as_slice(), &signature)?.ok_or("fits")?;
-    assert!(rt; agrees_on_roles(&hier));
-    assert!(rt; agrees_on_basics(&hier));
-    assert!(rt; hier.roles() == ALL_ROLES.as_slice());
-    assert!(rt; has_predicates_below(rt.alloc(), &hier)?);
-    assert!(rt; has_roles_below(rt.alloc(), &hier)?);
-    assert!(rt; has_roles_of_the_filler(rt.alloc(), &hier)?);
+    assert!(rt; agrees_with_the_definition(rt.alloc())?);
     Ok(())
 }
 
 #[test]
 fn names_have_to_be_in_the_signature(rt: HostRuntime) -> Result<(), Fail> {
-    let axioms = axioms_of(rt.alloc())?;
-    assert!(rt; axioms.len() == 6 && MAX_PREDICATES == 4096);
-    let signature = signature_of(rt.alloc(), &[10, 11, 12, 13])?;
-    assert!(rt; hier_of(rt.alloc(), axioms.as_slice(), &signature)?.is_none());
+    assert!(rt; MAX_PREDICATES == 4096);
+    assert!(rt; wants_all_roles(rt.alloc())?);
     Ok(())
 }

@@ -61,39 +61,63 @@ fn reads_two<L: Library>(alloc: Global, files: &mut L) -> bool {
         && reads(alloc, files, "absent", "")
 }
 
-#[test]
-fn reads_whole(rt: HostRuntime) -> Result<(), Fail> {
-    let files = files_of(rt.alloc(), &TWO)?;
-    assert!(rt; names_differ(files.as_slice()));
-    assert!(rt; reads_two(rt.alloc(), &mut SafeLibrary::new(files)));
-    Ok(())
+/// Whether the two files are read so in memory.
+fn reads_in_memory(alloc: Global) -> Result<bool, AllocError> {
+    let files = files_of(alloc, &TWO)?;
+    if !names_differ(files.as_slice()) {
+        return Ok(false);
+    }
+    Ok(reads_two(alloc, &mut SafeLibrary::new(files)))
+}
+
+/// Whether they are where each read gives one byte.
+fn reads_by_bytes(alloc: Global) -> Result<bool, AllocError> {
+    let files = files_of(alloc, &TWO)?;
+    if !names_differ(files.as_slice()) {
+        return Ok(false);
+    }
+    Ok(reads_two(alloc, &mut ShortLibrary::new(files)))
 }
 
 #[test]
-fn reads_whole_by_single_bytes(rt: HostRuntime) -> Result<(), Fail> {
-    let files = files_of(rt.alloc(), &TWO)?;
-    assert!(rt; names_differ(files.as_slice()));
-    assert!(rt; reads_two(rt.alloc(), &mut ShortLibrary::new(files)));
+fn reads_whole(rt: HostRuntime) -> Result<(), Fail> {
+    assert!(rt; reads_in_memory(rt.alloc())?);
+    assert!(rt; reads_by_bytes(rt.alloc())?);
     Ok(())
 }
 
 /// The two files, where the call of this number is to fail.
-fn failing_files(
-    rt: &(impl process::Abort + AllocGlobal),
-    call: u64,
-) -> Result<MemoryLibrary, Fail> {
-    let files = files_of(rt.alloc(), &TWO)?;
-    assert!(rt; names_differ(files.as_slice()));
-    Ok(MemoryLibrary::new(files, Vec::from_slice(rt.alloc(), &[call])?))
+fn failing_files(alloc: Global, call: u64) -> Result<Option<MemoryLibrary>, AllocError> {
+    let files = files_of(alloc, &TWO)?;
+    if !names_differ(files.as_slice()) {
+        return Ok(None);
+    }
+    Ok(Some(MemoryLibrary::new(files, Vec::from_slice(alloc, &[call])?)))
+}
+
+/// Whether reading a file fails where the call of this number does.
+fn fails_at(alloc: Global, call: u64, name: &str) -> Result<bool, AllocError> {
+    match failing_files(alloc, call)? {
+        Some(mut files) => Ok(fails_to_read(alloc, &mut files, name)),
+        None => Ok(false),
+    }
+}
+
+/// Whether the file of letters is read all the same.
+fn reads_despite(alloc: Global, call: u64) -> Result<bool, AllocError> {
+    match failing_files(alloc, call)? {
+        Some(mut files) => Ok(reads(alloc, &mut files, "letters", "abc")),
+        None => Ok(false),
+    }
 }
 
 // The file takes two reads: one for its bytes, and one that finds the end.
 #[test]
 fn reads_fail_when_they_are_to(rt: HostRuntime) -> Result<(), Fail> {
-    assert!(rt; fails_to_read(rt.alloc(), &mut failing_files(&rt, 0)?, "letters"));
-    assert!(rt; fails_to_read(rt.alloc(), &mut failing_files(&rt, 1)?, "letters"));
-    assert!(rt; reads(rt.alloc(), &mut failing_files(&rt, 2)?, "letters", "abc"));
-    assert!(rt; fails_to_read(rt.alloc(), &mut failing_files(&rt, 2)?, "absent"));
+    assert!(rt; fails_at(rt.alloc(), 0, "letters")?);
+    assert!(rt; fails_at(rt.alloc(), 1, "letters")?);
+    assert!(rt; reads_despite(rt.alloc(), 2)?);
+    assert!(rt; fails_at(rt.alloc(), 2, "absent")?);
     Ok(())
 }
 
@@ -120,18 +144,24 @@ impl Library for Zeros {
     }
 }
 
+/// Whether so many zeros are read.
+fn reads_zeros(alloc: Global, files: &mut Zeros, len: usize) -> bool {
+    match read_whole(alloc, files, ZEROS) {
+        Ok(zeros) => zeros.len() == len,
+        Err(_) => false,
+    }
+}
+
 // A body that reads another file on the way, as one at 5,000,000 bytes, fails here.
 #[test]
-fn reads_in_many_pieces_and_no_other_file(rt: HostRuntime) -> Result<(), Fail> {
+fn reads_in_many_pieces_and_no_other_file(rt: HostRuntime) {
     let mut files = Zeros {
         len: 6_000_000,
         faults: 0,
     };
-    let zeros = read_whole(rt.alloc(), &mut files, ZEROS)?;
-    assert!(rt; zeros.len() == 6_000_000);
+    assert!(rt; reads_zeros(rt.alloc(), &mut files, 6_000_000));
     assert!(rt; files.faults == 0);
     assert!(rt; fails_to_read(rt.alloc(), &mut files, "ones"));
-    Ok(())
 }
 
 /// Writes two texts, and answers whether both were written.
@@ -244,19 +274,30 @@ fn a_fault_leaves_a_prefix(rt: HostRuntime) -> Result<(), Fail> {
     Ok(())
 }
 
+/// A new file of the system with a text: its path.
+fn written(rt: &HostRuntime, name: &str, text: &str) -> io::Result<String> {
+    let path = format!(in rt.alloc(); "/tmp/dl_io_{name}_{}", process::id(rt.process()))?;
+    fs::write(rt, path.as_str(), text)?;
+    Ok(path)
+}
+
+/// Whether a file of the system is read whole, with these bytes.
+fn reads_file(rt: &HostRuntime, path: &str, bytes: &str) -> bool {
+    reads(rt.alloc(), &mut FileLibrary::new(rt), path, bytes)
+}
+
+/// Whether it is while it is there. It is removed.
+fn reads_and_removes(rt: &HostRuntime, path: &str, bytes: &str) -> io::Result<bool> {
+    let read = reads_file(rt, path, bytes);
+    fs::remove_file(rt, path)?;
+    Ok(read)
+}
+
 #[test]
 fn reaches_files_of_the_system(rt: HostRuntime) -> Result<(), Fail> {
-    let path = format!(in rt.alloc(); "/tmp/dl_io_{}", process::id(rt.process()))?;
-    fs::write(&rt, path.as_str(), "from a file")?;
-    let read = reads(
-        rt.alloc(),
-        &mut FileLibrary::new(&rt),
-        path.as_str(),
-        "from a file",
-    );
-    fs::remove_file(&rt, path.as_str())?;
-    assert!(rt; read);
-    assert!(rt; reads(rt.alloc(), &mut FileLibrary::new(&rt), "/dev/null", ""));
+    let path = written(&rt, "any", "from a file")?;
+    assert!(rt; reads_and_removes(&rt, path.as_str(), "from a file")?);
+    assert!(rt; reads_file(&rt, "/dev/null", ""));
     assert!(rt; fails_to_read(rt.alloc(), &mut FileLibrary::new(&rt), path.as_str()));
     Ok(())
 }
@@ -272,24 +313,25 @@ fn reads_at(files: &mut FileLibrary<'_, HostRuntime>, path: &str, offsets: &[(u6
     true
 }
 
-// Another offset and another name open anew.
+/// Whether another offset and another name open anew.
+fn goes_on(rt: &HostRuntime, one: &str, two: &str) -> bool {
+    let mut files = FileLibrary::new(rt);
+    reads_at(
+        &mut files,
+        one,
+        &[(0, b'a'), (1, b'b'), (3, b'd'), (0, b'a')],
+    ) && reads_at(&mut files, two, &[(1, b'f'), (2, b'g')])
+        && reads_at(&mut files, one, &[(3, b'd')])
+}
+
 #[test]
 fn goes_on_or_opens_anew(rt: HostRuntime) -> Result<(), Fail> {
-    let one = format!(in rt.alloc(); "/tmp/dl_io_one_{}", process::id(rt.process()))?;
-    let two = format!(in rt.alloc(); "/tmp/dl_io_two_{}", process::id(rt.process()))?;
-    fs::write(&rt, one.as_str(), "abcd")?;
-    fs::write(&rt, two.as_str(), "efgh")?;
-    let mut files = FileLibrary::new(&rt);
-    let first = reads_at(
-        &mut files,
-        one.as_str(),
-        &[(0, b'a'), (1, b'b'), (3, b'd'), (0, b'a')],
-    );
-    let second = reads_at(&mut files, two.as_str(), &[(1, b'f'), (2, b'g')]);
-    let again = reads_at(&mut files, one.as_str(), &[(3, b'd')]);
+    let one = written(&rt, "one", "abcd")?;
+    let two = written(&rt, "two", "efgh")?;
+    let read = goes_on(&rt, one.as_str(), two.as_str());
     fs::remove_file(&rt, one.as_str())?;
     fs::remove_file(&rt, two.as_str())?;
-    assert!(rt; first && second && again);
+    assert!(rt; read);
     Ok(())
 }
 
@@ -300,14 +342,7 @@ fn reads_a_pipe(rt: HostRuntime) -> Result<(), Fail> {
     writer.write_all(b"through a pipe")?;
     drop(writer);
     let path = format!(in rt.alloc(); "/dev/fd/{}", reader.as_raw_fd())?;
-    assert!(rt;
-        reads(
-            rt.alloc(),
-            &mut FileLibrary::new(&rt),
-            path.as_str(),
-            "through a pipe"
-        )
-    );
+    assert!(rt; reads_file(&rt, path.as_str(), "through a pipe"));
     Ok(())
 }
 
@@ -346,22 +381,29 @@ impl Print for Output {
     }
 }
 
+/// Whether an output takes a piece in part, and then another one whole.
+fn takes_pieces(sink: &mut OutSink<'_, Output>, output: &Output) -> bool {
+    sink.write(b"abcd") == Ok(3)
+        && output.taken.get() == *b"abc"
+        && write_all(sink, b"de").is_ok()
+        && output.taken.get() == *b"de\0"
+}
+
+/// Whether a call that takes nothing of a piece failed, and the next one goes on.
+fn fails_once(sink: &mut OutSink<'_, Output>) -> bool {
+    write_all(sink, b"f").is_err() && write_all(sink, b"g").is_ok()
+}
+
 #[test]
-fn hands_bytes_to_the_output(rt: HostRuntime) -> Result<(), Fail> {
+fn hands_bytes_to_the_output(rt: HostRuntime) {
     let output = Output {
         taken: Cell::new([0; 3]),
         calls: Cell::new(0),
         fails: 2,
     };
     let mut sink = OutSink::new(&output);
-    assert!(rt; sink.write(b"abcd") == Ok(3));
-    assert!(rt; output.taken.get() == *b"abc");
-    assert!(rt; write_all(&mut sink, b"de").is_ok());
-    assert!(rt; output.taken.get() == *b"de\0");
-    // A call that takes nothing of a piece failed, and the next one goes on.
-    assert!(rt; write_all(&mut sink, b"f").is_err());
-    assert!(rt; write_all(&mut sink, b"g").is_ok());
-    Ok(())
+    assert!(rt; takes_pieces(&mut sink, &output));
+    assert!(rt; fails_once(&mut sink));
 }
 
 #[test]

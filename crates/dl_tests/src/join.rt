@@ -3,6 +3,7 @@ ghost use Rattle.dl_terms.specs.Answers.{AscendStrictly};
 ghost use Rattle.std.specs.List.Sorted.{IsSorted};
 ghost use Rattle.dl_join.specs.Disjuncts.{pair_cmp, AreSorted};
 
+use crate::axioms::list_of;
 use dl_join::{JoinFault, is_safe, join, merge};
 use dl_terms::{Disjunct, List, NoMemory, Pair, Probe, Term, Tuples};
 use std::alloc::Global;
@@ -163,14 +164,6 @@ fn add_atoms(
     Ok(())
 }
 
-/// Adds each term.
-fn add_terms(terms: &[Term], head: &mut List<Term>) -> Result<(), NoMemory> {
-    for term in terms {
-        head.push(*term)?;
-    }
-    Ok(())
-}
-
 /// True where the tuple at an index is this one.
 fn is_tuple(tuples: &Tuples, i: u64, row: &[u32]) -> bool
     requires { i < length tuples.now.tuples }
@@ -199,56 +192,67 @@ fn are_tuples(tuples: &Tuples, rows: &[&[u32]]) -> bool {
     true
 }
 
-/// True where the join of a row has its tuples, and one less is refused.
-fn has_its_tuples(alloc: Global, row: &Row) -> Result<bool, NoMemory> {
-    let mut head = List::new(alloc);
-    add_terms(row.0, &mut head)?;
-    let mut probes = List::new(alloc);
-    let mut lists = Vec::new(alloc);
-    add_atoms(alloc, row.1, &mut probes, &mut lists)?;
-    let disjunct = Disjunct {
-        head,
-        probes,
-        vars: 4,
-    };
-    if disjunct.head.len() > 9 || !is_safe(&disjunct) {
-        return Ok(false);
+/// The join, of a disjunct with a safe and short head.
+fn joined(
+    alloc: Global,
+    disjunct: &Disjunct,
+    lists: &[List<Pair>],
+    limit: u64,
+) -> Option<Result<Tuples, JoinFault>>
+    requires count { length lists.now ≡ length disjunct.now.probes }
+    requires sorted { AreSorted lists.now }
+{
+    if disjunct.head.len() > 9 || !is_safe(disjunct) {
+        return None;
     }
-    let count = row.2.len() as u64;
-    let Ok(tuples) = join(alloc, &disjunct, lists.as_slice(), count) else {
-        return Ok(false);
-    };
-    Ok(are_tuples(&tuples, row.2))
+    Some(join(alloc, disjunct, lists, limit))
 }
 
-/// True where the join of a row refuses one tuple less than it has.
-fn refuses_one_less(alloc: Global, row: &Row) -> Result<bool, NoMemory> {
-    let mut head = List::new(alloc);
-    add_terms(row.0, &mut head)?;
+/// True where the join has these tuples.
+fn has_tuples(alloc: Global, disjunct: &Disjunct, lists: &[List<Pair>], rows: &[&[u32]]) -> bool
+    requires count { length lists.now ≡ length disjunct.now.probes }
+    requires sorted { AreSorted lists.now }
+{
+    match joined(alloc, disjunct, lists, rows.len() as u64) {
+        Some(Ok(tuples)) => are_tuples(&tuples, rows),
+        _ => false,
+    }
+}
+
+/// True where the join refuses one tuple less than it has, if it has one.
+fn refuses_one_less(alloc: Global, disjunct: &Disjunct, lists: &[List<Pair>], count: u64) -> bool
+    requires count { length lists.now ≡ length disjunct.now.probes }
+    requires sorted { AreSorted lists.now }
+{
+    match count.checked_sub(1) {
+        Some(limit) => matches!(
+            joined(alloc, disjunct, lists, limit),
+            Some(Err(JoinFault::TooMany))
+        ),
+        None => true,
+    }
+}
+
+/// True where the join of a row has its tuples, and one less is refused.
+fn is_row(alloc: Global, row: &Row) -> Result<bool, NoMemory> {
     let mut probes = List::new(alloc);
     let mut lists = Vec::new(alloc);
     add_atoms(alloc, row.1, &mut probes, &mut lists)?;
     let disjunct = Disjunct {
-        head,
+        head: list_of(alloc, row.0)?,
         probes,
         vars: 4,
     };
-    if disjunct.head.len() > 9 || !is_safe(&disjunct) {
-        return Ok(false);
-    }
-    let Some(limit) = (row.2.len() as u64).checked_sub(1) else {
-        return Ok(true);
-    };
-    match join(alloc, &disjunct, lists.as_slice(), limit) {
-        Err(JoinFault::TooMany) => Ok(true),
-        _ => Ok(false),
-    }
+    Ok(
+        has_tuples(alloc, &disjunct, lists.as_slice(), row.2)
+            && refuses_one_less(alloc, &disjunct, lists.as_slice(), row.2.len() as u64),
+    )
 }
 
 /// True where each row has its tuples.
 fn rows_have_their_tuples(alloc: Global) -> Result<bool, NoMemory> {
     for row in ROWS {
-        if !has_its_tuples(alloc, row)? || !refuses_one_less(alloc, row)? {
+        if !is_row(alloc, row)? {
             return Ok(false);
         }
     }
@@ -261,23 +265,30 @@ fn small_joins(rt: HostRuntime) -> Result<(), Fail> {
     Ok(())
 }
 
-/// The tuples of the one probe of a disjunct over some pairs.
-fn tuples_of(alloc: Global, disjunct: &Disjunct, pairs: &[Pair]) -> Result<Option<Tuples>, NoMemory>
-    ensures width { IfOk result (λ some. IfSome some (λ tuples. tuples.width ≡ length disjunct.now.head)) }
-    ensures ascending { IfOk result (λ some. IfSome some (λ tuples. AscendStrictly tuples.tuples)) }
+/// The lists of pairs of one probe.
+fn one_list(alloc: Global, pairs: &[Pair]) -> Result<Vec<List<Pair>>, NoMemory>
+    ensures count { IfOk result (λ lists. length lists.items ≡ 1) }
+    ensures sorted { IfOk result (λ lists. AreSorted lists.items) }
 {
     let mut lists = Vec::new(alloc);
     let list = sorted(alloc, pairs)?;
-    let Ok(()) = lists.push(list) else {
-        return Err(NoMemory);
-    };
+    match lists.push(list) {
+        Ok(()) => Ok(lists),
+        Err(_) => Err(NoMemory),
+    }
+}
+
+/// The tuples of a disjunct with one probe over some pairs.
+fn tuples_of(alloc: Global, disjunct: &Disjunct, lists: &[List<Pair>]) -> Result<Tuples, JoinFault>
+    requires count { length lists.now ≡ 1 }
+    requires sorted { AreSorted lists.now }
+    ensures width { IfOk result (λ tuples. tuples.width ≡ length disjunct.now.head) }
+    ensures ascending { IfOk result (λ tuples. AscendStrictly tuples.tuples) }
+{
     if disjunct.probes.len() != 1 || disjunct.head.len() > 9 || !is_safe(disjunct) {
-        return Ok(None);
+        return Err(JoinFault::NoMemory);
     }
-    match join(alloc, disjunct, lists.as_slice(), 100) {
-        Ok(tuples) => Ok(Some(tuples)),
-        Err(_) => Ok(None),
-    }
+    join(alloc, disjunct, lists, 100)
 }
 
 /// The pairs of both lists of pairs, each once.
@@ -291,28 +302,51 @@ const UNION: &[&[u32]] = &[
     &[3, 4],
 ];
 
-/// True where the union of two answers has the tuples of both, each once, and one less is refused.
-fn is_the_union(alloc: Global) -> Result<bool, NoMemory> {
-    let mut head = List::new(alloc);
-    add_terms(&[X, Y], &mut head)?;
+/// The disjunct of a role's own pairs.
+fn of_role(alloc: Global) -> Result<Disjunct, NoMemory> {
     let mut probes = List::new(alloc);
     probes.push(probe_of(alloc, X, Some(Y)))?;
-    let disjunct = Disjunct {
-        head,
+    Ok(Disjunct {
+        head: list_of(alloc, &[X, Y])?,
         probes,
         vars: 2,
+    })
+}
+
+/// True where two answers together are the union, and one tuple less is refused.
+fn unite(alloc: Global, one: &Tuples, two: &Tuples) -> bool
+    requires width { one.now.width ≡ two.now.width }
+    requires one { AscendStrictly one.now.tuples }
+    requires two { AscendStrictly two.now.tuples }
+{
+    let Ok(both) = merge(alloc, one, two, 7) else {
+        return false;
     };
-    let Some(one) = tuples_of(alloc, &disjunct, CHAIN)? else {
-        return Ok(false);
-    };
-    let Some(two) = tuples_of(alloc, &disjunct, LOOPS)? else {
-        return Ok(false);
-    };
-    let Ok(both) = merge(alloc, &one, &two, 7) else {
-        return Ok(false);
-    };
-    let refused = merge(alloc, &one, &two, 6);
-    Ok(are_tuples(&both, UNION) && matches!(refused, Err(JoinFault::TooMany)))
+    are_tuples(&both, UNION) && matches!(merge(alloc, one, two, 6), Err(JoinFault::TooMany))
+}
+
+/// True where the pairs of two lists have their union.
+fn have_union(alloc: Global, disjunct: &Disjunct, one: &[List<Pair>], two: &[List<Pair>]) -> bool
+    requires ones { length one.now ≡ 1 }
+    requires ones_sorted { AreSorted one.now }
+    requires twos { length two.now ≡ 1 }
+    requires twos_sorted { AreSorted two.now }
+{
+    match tuples_of(alloc, disjunct, one) {
+        Ok(one) => match tuples_of(alloc, disjunct, two) {
+            Ok(two) => unite(alloc, &one, &two),
+            Err(_) => false,
+        },
+        Err(_) => false,
+    }
+}
+
+/// True where the union of two answers has the tuples of both, each once, and one less is refused.
+fn is_the_union(alloc: Global) -> Result<bool, NoMemory> {
+    let disjunct = of_role(alloc)?;
+    let one = one_list(alloc, CHAIN)?;
+    let two = one_list(alloc, LOOPS)?;
+    Ok(have_union(alloc, &disjunct, one.as_slice(), two.as_slice()))
 }
 
 #[test]
@@ -434,6 +468,24 @@ fn add_pairs(seed: u64, pairs: &mut Vec<Pair>) -> Result<(), NoMemory> {
     Ok(())
 }
 
+/// A second term of a probe, or none.
+fn second_of(number: u64) -> Option<Term> {
+    if number >> 62 == 0 {
+        None
+    } else {
+        Some(term_of(number))
+    }
+}
+
+/// Up to eight pairs of names below 5, sorted.
+fn pairs_of(alloc: Global, seed: u64) -> Result<List<Pair>, NoMemory>
+    ensures { IfOk result (λ list. IsSorted pair_cmp list) }
+{
+    let mut pairs = Vec::new(alloc);
+    add_pairs(seed, &mut pairs)?;
+    sorted(alloc, pairs.as_slice())
+}
+
 /// Adds some probes and their lists.
 fn add_probes(
     alloc: Global,
@@ -448,19 +500,10 @@ fn add_probes(
 {
     let mut state = seed;
     for _ in 0..(seed >> 37) % 4 {
-        state = next(state);
-        let at = term_of(state);
-        state = next(state);
-        let to = if state >> 62 == 0 {
-            None
-        } else {
-            Some(term_of(state))
-        };
-        probes.push(probe_of(alloc, at, to))?;
-        let mut pairs = Vec::new(alloc);
-        state = next(state);
-        add_pairs(state, &mut pairs)?;
-        let list = sorted(alloc, pairs.as_slice())?;
+        let (one, two) = (next(state), next(next(state)));
+        state = next(two);
+        probes.push(probe_of(alloc, term_of(one), second_of(two)))?;
+        let list = pairs_of(alloc, state)?;
         let Ok(()) = lists.push(list) else {
             return Err(NoMemory);
         };
@@ -468,29 +511,41 @@ fn add_probes(
     Ok(())
 }
 
-/// True where a join from a number, if its head is safe, has exactly the tuples of a plain body.
-fn is_plain(alloc: Global, seed: u64) -> Result<bool, NoMemory> {
+/// Up to three terms from a number.
+fn head_of(alloc: Global, seed: u64) -> Result<List<Term>, NoMemory> {
     let mut head = List::new(alloc);
-    let mut state = next(seed);
-    for _ in 0..(state >> 33) % 4 {
+    let mut state = seed;
+    for _ in 0..(seed >> 33) % 4 {
         state = next(state);
         head.push(term_of(state))?;
     }
+    Ok(head)
+}
+
+/// True where a join, if its head is safe, has exactly the tuples of a plain body.
+fn joins_plainly(alloc: Global, disjunct: &Disjunct, lists: &[List<Pair>]) -> Result<bool, NoMemory>
+    requires count { length lists.now ≡ length disjunct.now.probes }
+    requires sorted { AreSorted lists.now }
+{
+    match joined(alloc, disjunct, lists, 1000) {
+        Some(Ok(tuples)) => are_all(alloc, disjunct, lists, &tuples),
+        Some(Err(_)) => Ok(false),
+        None => Ok(true),
+    }
+}
+
+/// True where that is so of the head and the probes from a number.
+fn is_plain(alloc: Global, seed: u64) -> Result<bool, NoMemory> {
+    let head = head_of(alloc, next(seed))?;
     let mut probes = List::new(alloc);
     let mut lists = Vec::new(alloc);
-    add_probes(alloc, next(state), &mut probes, &mut lists)?;
+    add_probes(alloc, next(next(!seed)), &mut probes, &mut lists)?;
     let disjunct = Disjunct {
         head,
         probes,
         vars: 3,
     };
-    if disjunct.head.len() > 9 || !is_safe(&disjunct) {
-        return Ok(true);
-    }
-    let Ok(tuples) = join(alloc, &disjunct, lists.as_slice(), 1000) else {
-        return Ok(false);
-    };
-    are_all(alloc, &disjunct, lists.as_slice(), &tuples)
+    joins_plainly(alloc, &disjunct, lists.as_slice())
 }
 
 /// True where the joins from many numbers are plain.

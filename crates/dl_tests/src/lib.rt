@@ -3,6 +3,8 @@
 #![tactic(auto)]
 
 #[cfg(test)]
+mod axioms;
+#[cfg(test)]
 mod faults;
 #[cfg(test)]
 mod hier;

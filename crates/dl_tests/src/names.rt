@@ -2,7 +2,6 @@ ghost use Rattle.std.specs.Prelude.{◌≡◌, ◌≤◌, length};
 
 use dl_names::{NameFault, NameSet, Names, Ranks, is_iri_byte, is_reserved, name_of};
 use dl_terms::Fact;
-use std::test::Fail;
 
 /// Texts in the order in which they come, each with its place by first occurrence.
 const PLACES: &[(&str, u32)] = &[
@@ -81,17 +80,24 @@ fn are_ranked(ranks: &Ranks, wanted: &[u32]) -> bool
     true
 }
 
+/// Whether the names are the seven, in order.
+fn are_the_seven(names: &Names) -> bool {
+    names.len() == 7 && !names.is_empty() && are_in_order(names, IN_ORDER) && lacks(names, MISSING)
+}
+
+/// Whether the names of a set are the seven, with their ranks.
+fn freezes(set: NameSet) -> bool {
+    let Ok((names, ranks)) = set.freeze() else {
+        return false;
+    };
+    names.len() == 7 && are_ranked(&ranks, &RANKS) && are_the_seven(&names)
+}
+
 #[test]
-fn places_by_first_occurrence_and_ranks_by_bytes(rt: HostRuntime) -> Result<(), Fail> {
+fn places_by_first_occurrence_and_ranks_by_bytes(rt: HostRuntime) {
     let mut set = NameSet::new(rt.alloc());
     assert!(rt; are_added(&mut set, PLACES));
-    let (names, ranks) = set.freeze()?;
-    assert!(rt; names.len() == 7);
-    assert!(rt; !names.is_empty());
-    assert!(rt; are_in_order(&names, IN_ORDER));
-    assert!(rt; lacks(&names, MISSING));
-    assert!(rt; are_ranked(&ranks, &RANKS));
-    Ok(())
+    assert!(rt; freezes(set));
 }
 
 /// Three texts whose order by bytes is another.
@@ -119,14 +125,19 @@ fn are_ranked_facts(ranks: &Ranks) -> bool
             }
 }
 
+/// Whether facts over the places of a set get their numbers, if it has three.
+fn ranks_facts(set: NameSet) -> bool {
+    let Ok((names, ranks)) = set.freeze() else {
+        return false;
+    };
+    names.len() == 3 && are_ranked_facts(&ranks)
+}
+
 #[test]
-fn facts_get_their_numbers(rt: HostRuntime) -> Result<(), Fail> {
+fn facts_get_their_numbers(rt: HostRuntime) {
     let mut set = NameSet::new(rt.alloc());
     assert!(rt; are_added(&mut set, FEW));
-    let (names, ranks) = set.freeze()?;
-    assert!(rt; names.len() == 3);
-    assert!(rt; are_ranked_facts(&ranks));
-    Ok(())
+    assert!(rt; ranks_facts(set));
 }
 
 /// Texts of which some come twice.

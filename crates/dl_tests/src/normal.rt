@@ -1,8 +1,7 @@
-ghost use Rattle.std.specs.Prelude.{◌<◌, ◌^◌, length, IfOk};
-
+use crate::axioms::{Row, axioms_of};
 use dl_normal::{fillers, fillers_are_of_parts, normal, weight};
-use dl_terms::{Axiom, Base, Basic, List, Negative, NoMemory, Part, Role};
-use std::alloc::{AllocError, Global};
+use dl_terms::{Base, Basic, Negative, NoMemory, Part, Role};
+use std::alloc::Global;
 use std::test::Fail;
 
 const A: Basic = Basic::Class(0);
@@ -50,62 +49,33 @@ const FILLER_INVERSE: Role = Role {
     inverse: true,
 };
 
-fn list_of<T: Copy + Drop>(alloc: Global, items: &[T]) -> Result<List<T>, AllocError> {
-    Ok(List::of(Vec::from_slice(alloc, items)?))
-}
+/// Axioms of each kind.
+const AXIOMS: &[Row] = &[
+    Row::SubClass(
+        A,
+        &[
+            Part::Thing,
+            Part::Class(1),
+            Part::Any(S),
+            Part::Fill(P, 1),
+            Part::Not(D),
+        ],
+    ),
+    Row::EquivalentClasses(&[A, Basic::SomeOf(P), D]),
+    Row::DisjointClasses(&[A, Basic::SomeOf(P), D]),
+    Row::SubRole(P, S_INVERSE),
+    Row::EquivalentRoles(&[P, S, P_INVERSE]),
+    Row::DisjointRoles(&[P, S, P_INVERSE]),
+    Row::InverseRoles(P, S),
+    Row::Domain(S, &[Part::Class(1)]),
+    Row::Range(S, &[Part::Fill(P, 1), Part::Not(D)]),
+    Row::Symmetric(P),
+    Row::Asymmetric(P),
+    Row::Irreflexive(P),
+];
 
-/// Axioms on classes, of each kind.
-fn push_on_classes(alloc: Global, axioms: &mut List<Axiom>) -> Result<(), NoMemory> {
-    let parts = [
-        Part::Thing,
-        Part::Class(1),
-        Part::Any(S),
-        Part::Fill(P, 1),
-        Part::Not(D),
-    ];
-    axioms.push(Axiom::SubClass {
-        sub: A,
-        sup: list_of(alloc, &parts)?,
-    })?;
-    let classes = [A, Basic::SomeOf(P), D];
-    axioms.push(Axiom::EquivalentClasses(list_of(alloc, &classes)?))?;
-    axioms.push(Axiom::DisjointClasses(list_of(alloc, &classes)?))
-}
-
-/// Axioms on lists of roles, and on two roles.
-fn push_on_roles(alloc: Global, axioms: &mut List<Axiom>) -> Result<(), NoMemory> {
-    axioms.push(Axiom::SubRole {
-        sub: P,
-        sup: S_INVERSE,
-    })?;
-    let roles = [P, S, P_INVERSE];
-    axioms.push(Axiom::EquivalentRoles(list_of(alloc, &roles)?))?;
-    axioms.push(Axiom::DisjointRoles(list_of(alloc, &roles)?))?;
-    axioms.push(Axiom::InverseRoles { one: P, two: S })
-}
-
-/// Axioms on one role.
-fn push_on_a_role(alloc: Global, axioms: &mut List<Axiom>) -> Result<(), NoMemory> {
-    axioms.push(Axiom::Domain {
-        role: S,
-        sup: list_of(alloc, &[Part::Class(1)])?,
-    })?;
-    axioms.push(Axiom::Range {
-        role: S,
-        sup: list_of(alloc, &[Part::Fill(P, 1), Part::Not(D)])?,
-    })?;
-    axioms.push(Axiom::Symmetric(P))?;
-    axioms.push(Axiom::Asymmetric(P))?;
-    axioms.push(Axiom::Irreflexive(P))
-}
-
-fn axioms_of_each_kind(alloc: Global) -> Result<List<Axiom>, NoMemory> {
-    let mut axioms = List::new(alloc);
-    push_on_classes(alloc, &mut axioms)?;
-    push_on_roles(alloc, &mut axioms)?;
-    push_on_a_role(alloc, &mut axioms)?;
-    Ok(axioms)
-}
+/// An axiom without a meaning.
+const THING: &[Row] = &[Row::SubClass(A, &[Part::Thing])];
 
 /// The rows of these axioms, by the table of the normal form.
 const ROLES: [(Role, Role); 9] = [
@@ -146,28 +116,36 @@ const NEGATIVES: [(u32, Negative); 10] = [
     (11, Negative::NoLoop(P)),
 ];
 
+/// Whether the axioms have these rows.
+fn has_rows(alloc: Global) -> Result<bool, NoMemory> {
+    let axioms = axioms_of(alloc, AXIOMS)?;
+    if axioms.len() != 12 {
+        return Ok(false);
+    }
+    let rows = normal(alloc, axioms.as_slice())?;
+    Ok(
+        rows.roles.as_slice() == ROLES.as_slice()
+            && rows.concepts.as_slice() == CONCEPTS.as_slice()
+            && rows.negatives.as_slice() == NEGATIVES.as_slice(),
+    )
+}
+
 #[test]
 fn rows_of_each_kind(rt: HostRuntime) -> Result<(), Fail> {
-    let axioms = axioms_of_each_kind(rt.alloc())?;
-    assert!(rt; axioms.len() == 12);
-    let rows = normal(rt.alloc(), axioms.as_slice())?;
-    assert!(rt; rows.roles.as_slice() == ROLES.as_slice());
-    assert!(rt; rows.concepts.as_slice() == CONCEPTS.as_slice());
-    assert!(rt; rows.negatives.as_slice() == NEGATIVES.as_slice());
+    assert!(rt; has_rows(rt.alloc())?);
     Ok(())
+}
+
+/// Whether the axioms of some rows weigh so much and have so many fillers.
+fn weighs(alloc: Global, rows: &[Row], wanted: u64, filled: u64) -> Result<bool, NoMemory> {
+    let axioms = axioms_of(alloc, rows)?;
+    Ok(weight(axioms.as_slice()) == wanted && fillers(alloc, axioms.as_slice())? == filled)
 }
 
 #[test]
 fn weights_and_fillers(rt: HostRuntime) -> Result<(), Fail> {
     fillers_are_of_parts();
-    let axioms = axioms_of_each_kind(rt.alloc())?;
-    assert!(rt; weight(axioms.as_slice()) == 29);
-    assert!(rt; fillers(rt.alloc(), axioms.as_slice())? == 1);
-    let mut thing = List::new(rt.alloc());
-    thing.push(Axiom::SubClass {
-        sub: A,
-        sup: list_of(rt.alloc(), &[Part::Thing])?,
-    })?;
-    assert!(rt; weight(thing.as_slice()) == 1);
+    assert!(rt; weighs(rt.alloc(), AXIOMS, 29, 1)?);
+    assert!(rt; weighs(rt.alloc(), THING, 1, 0)?);
     Ok(())
 }

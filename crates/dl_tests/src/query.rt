@@ -1,5 +1,5 @@
 use dl_names::NameSet;
-use dl_query::{QueryFault, read_query};
+use dl_query::{QueryFault, ranked, read_query};
 use dl_terms::{Atom, Query, Term};
 use std::alloc::{AllocError, Global};
 use std::test::Fail;
@@ -346,4 +346,34 @@ fn is_counted(alloc: Global, atoms: u32) -> Result<bool, AllocError> {
 fn a_query_of_many_atoms_is_counted(rt: HostRuntime) -> Result<(), Fail> {
     assert!(rt; is_counted(rt.alloc(), 1000)?);
     Ok(())
+}
+
+/// Whether the query is this one, whose names have numbers by their order: A is 0, and P, which is read first, is 1.
+fn has_numbers(query: &Query) -> bool {
+    let atoms = [Atom::Link {
+        role: 1,
+        from: X,
+        to: Term::Name(0),
+    }];
+    query.head.as_slice() == [0].as_slice()
+        && query.atoms.as_slice() == atoms.as_slice()
+        && query.vars == 1
+}
+
+/// Whether the names of a text get their numbers.
+fn is_ranked(alloc: Global, text: &[u8]) -> bool {
+    let mut names = NameSet::new(alloc);
+    let Ok(mut query) = read_query(alloc, text, &mut names) else {
+        return false;
+    };
+    let Ok((_, ranks)) = names.freeze() else {
+        return false;
+    };
+    ranked(&mut query, &ranks);
+    has_numbers(&query)
+}
+
+#[test]
+fn names_of_queries_get_their_numbers(rt: HostRuntime) {
+    assert!(rt; is_ranked(rt.alloc(), b"q(?x) :- <P>(?x, <A>)"));
 }

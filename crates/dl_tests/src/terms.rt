@@ -1,10 +1,10 @@
 ghost use Rattle.std.specs.Prelude.{◌≡◌, ◌<◌, length};
 
+use crate::axioms::{Row, axioms_of};
 use dl_terms::{
-    Axiom, Base, Basic, Fact, List, NoMemory, Part, Role, Steps, Tuples, axioms_are_ordered,
+    Axiom, Base, Basic, Fact, List, Part, Role, Steps, Tuples, axioms_are_ordered,
     facts_are_ordered, roles_are_ordered, set_of,
 };
-use std::alloc::Global;
 use std::marker::Brand;
 use std::sync::ledger::{Blank, Ledger};
 use std::test::Fail;
@@ -28,58 +28,20 @@ const FILLER: Role = Role {
     inverse: false,
 };
 
-/// Axioms that are below a class or "some r", with one part on the right or none, in their order.
-const INCLUSIONS: [(Basic, Option<Part>); 7] = [
-    (Basic::Class(1), None),
-    (Basic::Class(1), Some(Part::Thing)),
-    (Basic::Class(1), Some(Part::Any(P))),
-    (Basic::Class(2), Some(Part::Thing)),
-    (Basic::SomeOf(P), Some(Part::Thing)),
-    (Basic::SomeOf(INVERSE), Some(Part::Thing)),
-    (Basic::SomeOf(FILLER), Some(Part::Thing)),
-];
-
-/// `SubClassOf` of a concept and a part, or of no part at all.
-fn below(alloc: Global, sub: Basic, part: Option<Part>) -> Result<Axiom, NoMemory> {
-    let mut sup = List::new(alloc);
-    if let Some(part) = part {
-        sup.push(part)?;
-    }
-    Ok(Axiom::SubClass { sub, sup })
-}
-
-/// `DisjointClasses` of one class.
-fn disjoint(alloc: Global, class: u32) -> Result<Axiom, NoMemory> {
-    let mut classes = List::new(alloc);
-    classes.push(Basic::Class(class))?;
-    Ok(Axiom::DisjointClasses(classes))
-}
-
-/// Adds the axiom of each row.
-fn push_inclusions(
-    alloc: Global,
-    axioms: &mut List<Axiom>,
-    rows: &[(Basic, Option<Part>)],
-) -> Result<(), NoMemory> {
-    for row in rows {
-        axioms.push(below(alloc, row.0, row.1)?)?;
-    }
-    Ok(())
-}
-
 /// Axioms in their order: by kind, and then by operands from left to right.
-fn ascending_axioms(alloc: Global) -> Result<List<Axiom>, NoMemory> {
-    let mut axioms = List::new(alloc);
-    push_inclusions(alloc, &mut axioms, &INCLUSIONS)?;
-    axioms.push(disjoint(alloc, 1)?)?;
-    axioms.push(Axiom::SubRole {
-        sub: P,
-        sup: INVERSE,
-    })?;
-    axioms.push(Axiom::Symmetric(P))?;
-    axioms.push(Axiom::Irreflexive(P))?;
-    Ok(axioms)
-}
+const ASCENDING: &[Row] = &[
+    Row::SubClass(Basic::Class(1), &[]),
+    Row::SubClass(Basic::Class(1), &[Part::Thing]),
+    Row::SubClass(Basic::Class(1), &[Part::Any(P)]),
+    Row::SubClass(Basic::Class(2), &[Part::Thing]),
+    Row::SubClass(Basic::SomeOf(P), &[Part::Thing]),
+    Row::SubClass(Basic::SomeOf(INVERSE), &[Part::Thing]),
+    Row::SubClass(Basic::SomeOf(FILLER), &[Part::Thing]),
+    Row::DisjointClasses(&[Basic::Class(1)]),
+    Row::SubRole(P, INVERSE),
+    Row::Symmetric(P),
+    Row::Irreflexive(P),
+];
 
 /// Whether the axiom compares with each as their indices do.
 fn compares(axiom: &Axiom, index: usize, axioms: &[Axiom]) -> bool {
@@ -110,11 +72,15 @@ const LINK: Fact = Fact::Link {
 };
 
 #[test]
-fn axioms_ascend(rt: HostRuntime) -> Result<(), Fail> {
+fn orders_are_total() {
     roles_are_ordered();
     axioms_are_ordered();
     facts_are_ordered();
-    let axioms = ascending_axioms(rt.alloc())?;
+}
+
+#[test]
+fn axioms_ascend(rt: HostRuntime) -> Result<(), Fail> {
+    let axioms = axioms_of(rt.alloc(), ASCENDING)?;
     assert!(rt; axioms.len() == 11);
     assert!(rt; axioms.get(11).is_none());
     assert!(rt; ascend(axioms.as_slice()));
