@@ -30,17 +30,21 @@ module _ (head : List ℕ) where
   abbrev pub IsInHead : Atom → Type 0
   IsInHead a = All (Contains head) (atom_variables a)
 
-  pub class_told : (a : Atom) (c : ℕ) (t : Term) (r : Bool) → a ≡ Is c t → IsTrue r ↔ All (Contains head) (term_variables t) → IsTrue r ↔ IsInHead a
+  pub class_told : (a : Atom) (c : ℕ) (t : Term) (r : Bool) → a ≡ Is c t
+      → IsTrue r ↔ All (Contains head) (term_variables t) → IsTrue r ↔ IsInHead a
   class_told a c t r e h = subst (λ x. IsTrue r ↔ IsInHead x) (sym e) h
 
-  pub first_missing : (a : Atom) (p : ℕ) (t u : Term) (r : Bool) → a ≡ Link p t u → r ≡ false → IsTrue r ↔ All (Contains head) (term_variables t)
+  pub first_missing : (a : Atom) (p : ℕ) (t u : Term) (r : Bool) → a ≡ Link p t u → r ≡ false
+      → IsTrue r ↔ All (Contains head) (term_variables t)
       → IsTrue false ↔ IsInHead a
   first_missing a p t u r e absent h = (
     λ f. absurd (true≢false (sym f)),
-    λ all. absurd (true≢false (sym (h.1 (All-left (Contains head) (term_variables t) (term_variables u) (subst IsInHead e all))) ∙ absent)),
+    λ all. absurd (true≢false (sym (h.1
+        (All-left (Contains head) (term_variables t) (term_variables u) (subst IsInHead e all))) ∙ absent)),
   )
 
-  pub second_told : (a : Atom) (p : ℕ) (t u : Term) (one two : Bool) → a ≡ Link p t u → one ≡ true → IsTrue one ↔ All (Contains head) (term_variables t)
+  pub second_told : (a : Atom) (p : ℕ) (t u : Term) (one two : Bool) → a ≡ Link p t u → one ≡ true
+      → IsTrue one ↔ All (Contains head) (term_variables t)
       → IsTrue two ↔ All (Contains head) (term_variables u) → IsTrue two ↔ IsInHead a
   second_told a p t u one two e there h k = (
     λ f. subst IsInHead (sym e) (All-append (Contains head) (term_variables t) (term_variables u) (h.0 there) (k.0 f)),
@@ -49,7 +53,8 @@ module _ (head : List ℕ) where
 
 -- ---- existential variables
 
-not_existential : (q : Query) → ((v : ℕ) → Contains (body_variables q) v → Contains q.head v) → (v : ℕ) → is_existential q v ≡ false
+not_existential : (q : Query) → ((v : ℕ) → Contains (body_variables q) v → Contains q.head v) → (v : ℕ)
+    → is_existential q v ≡ false
 not_existential q within v = by (list_any (nat_eq v) (body_variables q)) refl
   where
     by : (b : Bool) → list_any (nat_eq v) (body_variables q) ≡ b → is_existential q v ≡ false
@@ -57,17 +62,22 @@ not_existential q within v = by (list_any (nat_eq v) (body_variables q)) refl
     by false e = ap (λ a. a && not (list_any (nat_eq v) q.head)) e
 
 -- where each variable of the body is in the head, none is existential
-none_existential : (q : Query) → ((v : ℕ) → Contains (body_variables q) v → Contains q.head v) → existential_variables q ≡ []
-none_existential q within = filter_none (is_existential q) (range_with_len 0 q.vars) (λ k d h. not_existential q within _)
+none_existential : (q : Query) → ((v : ℕ) → Contains (body_variables q) v → Contains q.head v)
+    → existential_variables q ≡ []
+none_existential q within = filter_none (is_existential q) (range_with_len 0 q.vars)
+    (λ k d h. not_existential q within _)
 
-atoms_in_head : (q : Query) → All (IsInHead q.head) q.atoms → (v : ℕ) → Contains (body_variables q) v → Contains q.head v
+atoms_in_head : (q : Query) → All (IsInHead q.head) q.atoms → (v : ℕ) → Contains (body_variables q) v
+    → Contains q.head v
 atoms_in_head q all v c =
     let w = Contains-flat_map atom_variables q.atoms v c in
     All-contains (Contains q.head) (atom_variables w.0) v (All-contains (IsInHead q.head) q.atoms w.0 all w.1) w.2
 
-head_of_atoms : (q : Query) → ((v : ℕ) → Contains (body_variables q) v → Contains q.head v) → All (IsInHead q.head) q.atoms
+head_of_atoms : (q : Query) → ((v : ℕ) → Contains (body_variables q) v → Contains q.head v)
+    → All (IsInHead q.head) q.atoms
 head_of_atoms q within k d h = λ j e lt.
-    within _ (Contains-flat_map_of atom_variables q.atoms _ _ (Contains-get_or q.atoms k d h) (Contains-get_or _ j e lt))
+    within _ (Contains-flat_map_of atom_variables q.atoms _ _ (Contains-get_or q.atoms k d h)
+    (Contains-get_or _ j e lt))
 
 -- ---- negatives
 
@@ -78,7 +88,8 @@ module _ (axioms : List Axiom) (normal : Normal) (is : IsNormalForm axioms norma
   -- there are as many negatives of the axioms as the normal form has
   negatives_count : length normal.negatives ≡ length (flat_map axiom_negatives axioms)
   negatives_count =
-      let many : length (map (beside axioms) (negatives_by_index axioms)) ≡ length (negatives_by_index axioms) = length-map (negatives_by_index axioms) (beside axioms) in
+      let many : length (map (beside axioms) (negatives_by_index axioms)) ≡ length (negatives_by_index axioms) =
+      length-map (negatives_by_index axioms) (beside axioms) in
       let same = ap length (negatives-beside axioms) in
       let last = length-append (flat_map axiom_negatives axioms) (nothing_negative None) in
       omega (arith, ap length is.negatives, many, same, last)
@@ -90,9 +101,11 @@ module _ (axioms : List Axiom) (normal : Normal) (is : IsNormalForm axioms norma
   no_negative : (nothing : Option ℕ) → length normal.negatives ≡ 0 → nothing ≡ None → negatives axioms nothing ≡ []
   no_negative nothing none unnamed =
       none_of_length (negatives axioms nothing)
-      (ap (λ n. length (negatives axioms n)) unnamed ∙ (length-append (flat_map axiom_negatives axioms) [] ∙ omega (arith, none, negatives_count)))
+      (ap (λ n. length (negatives axioms n)) unnamed ∙
+      (length-append (flat_map axiom_negatives axioms) [] ∙ omega (arith, none, negatives_count)))
 
-  negatives_none : (nothing : Option ℕ) → negatives axioms nothing ≡ [] → (length normal.negatives ≡ 0) × (length (nothing_negative nothing) ≡ 0)
+  negatives_none : (nothing : Option ℕ) → negatives axioms nothing ≡ []
+      → (length normal.negatives ≡ 0) × (length (nothing_negative nothing) ≡ 0)
   negatives_none nothing none =
       let size = ap length none in
       let parts = length-append (flat_map axiom_negatives axioms) (nothing_negative nothing) in
@@ -100,7 +113,11 @@ module _ (axioms : List Axiom) (normal : Normal) (is : IsNormalForm axioms norma
 
   module _ (q : Query) (nothing : Option ℕ) where
     pub has_negative : 0 < length normal.negatives → IsTrue false ↔ IsServed axioms q nothing
-    has_negative some = (λ f. absurd (true≢false (sym f)), λ served. let none = (negatives_none nothing served.negatives).0 in absurd (omega (arith, some, none)))
+    has_negative some = (
+      λ f. absurd (true≢false (sym f)),
+      λ served. let none =
+          (negatives_none nothing served.negatives).0 in absurd (omega (arith, some, none)),
+    )
 
     pub has_nothing : (n : ℕ) → nothing ≡ Some n → IsTrue false ↔ IsServed axioms q nothing
     has_nothing n e = (
@@ -111,9 +128,14 @@ module _ (axioms : List Axiom) (normal : Normal) (is : IsNormalForm axioms norma
           absurd (omega (arith, none, one)),
     )
 
-    pub served_told : (r : Bool) → IsWellFormed q → length normal.negatives ≡ 0 → nothing ≡ None → IsTrue r ↔ All (IsInHead q.head) q.atoms
+    pub served_told : (r : Bool) → IsWellFormed q → length normal.negatives ≡ 0 → nothing ≡ None
+        → IsTrue r ↔ All (IsInHead q.head) q.atoms
         → IsTrue r ↔ IsServed axioms q nothing
     served_told r formed none unnamed h = (
-      λ t. record { variables = none_existential q (atoms_in_head q (h.0 t)); negatives = no_negative nothing none unnamed },
+      λ t. record {
+        variables = none_existential q (atoms_in_head q (h.0 t));
+        negatives =
+            no_negative nothing none unnamed;
+      },
       λ served. h.1 (head_of_atoms q (body_in_head q formed served.variables)),
     )

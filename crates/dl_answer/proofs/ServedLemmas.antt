@@ -38,7 +38,8 @@ pub in_list : (v : ℕ) (xs : List ℕ) → Contains xs v → list_any (nat_eq v
 in_list v xs c = list_any-from_Any (nat_eq v) xs (c.0, v, c.1, c.2, eq-eqb v v refl)
 
 pub list_in : (v : ℕ) (xs : List ℕ) → list_any (nat_eq v) xs ≡ true → Contains xs v
-list_in v xs e = let w = Any-from_list_any (nat_eq v) xs e in subst (Contains xs) (sym (eqb-true v w.1 w.4)) (w.0, w.2, w.3)
+list_in v xs e = let w = Any-from_list_any (nat_eq v) xs e in subst (Contains xs) (sym (eqb-true v w.1 w.4))
+    (w.0, w.2, w.3)
 
 in_range : (n v : ℕ) → v < n → Contains (range_with_len 0 n) v
 in_range n v h = (v, omega (arith, h, length-range_with_len 0 n), get_or-range_with_len 0 n v v h ∙ omega arith)
@@ -49,21 +50,26 @@ second_of true false e f = absurd (true≢false f)
 second_of false b e f = absurd (true≢false (sym e))
 
 -- without existential variables each variable of the body is in the head
-pub body_in_head : (q : Query) → IsWellFormed q → existential_variables q ≡ [] → (v : ℕ) → Contains (body_variables q) v → Contains q.head v
+pub body_in_head : (q : Query) → IsWellFormed q → existential_variables q ≡ [] → (v : ℕ)
+    → Contains (body_variables q) v → Contains q.head v
 body_in_head q formed none v c = by (is_existential q v) refl
   where
     by : (b : Bool) → is_existential q v ≡ b → Contains q.head v
     by true e =
         let inside = in_range q.vars v (All-contains (λ w. w < q.vars) (body_variables q) v formed.variables c) in
-        absurd (Contains-nil v (subst (λ l. Contains l v) none (Contains-filter_of (is_existential q) (range_with_len 0 q.vars) v inside e)))
-    by false e = list_in v q.head (second_of (list_any (nat_eq v) (body_variables q)) (list_any (nat_eq v) q.head) (in_list v (body_variables q) c) e)
+        absurd (Contains-nil v (subst (λ l. Contains l v) none
+        (Contains-filter_of (is_existential q) (range_with_len 0 q.vars) v inside e)))
+    by false e = list_in v q.head (second_of (list_any (nat_eq v) (body_variables q)) (list_any (nat_eq v) q.head)
+        (in_list v (body_variables q) c) e)
 
 -- ---- negatives
 
 -- where the axioms have no negative, nothing is broken
-pub nothing_broken : (axioms : List Axiom) (facts : List Fact) (nothing : Option ℕ) → negatives axioms nothing ≡ [] → NothingIsBroken axioms facts nothing
+pub nothing_broken : (axioms : List Axiom) (facts : List Fact) (nothing : Option ℕ)
+    → negatives axioms nothing ≡ [] → NothingIsBroken axioms facts nothing
 nothing_broken axioms facts nothing none =
-    All-same (λ n. ¬ IsMet axioms facts n.1) (negatives axioms nothing) [] none (All-nil (λ n. ¬ IsMet axioms facts n.1))
+    All-same (λ n. ¬ IsMet axioms facts n.1) (negatives axioms nothing) [] none
+    (All-nil (λ n. ¬ IsMet axioms facts n.1))
 
 -- ---- what is built
 
@@ -85,9 +91,11 @@ pub inclusions_of : (axioms : List Axiom) (normal : Normal) → IsNormalForm axi
 inclusions_of axioms normal is = record { roles = is.roles; concepts = is.concepts }
 
 -- the predicates of the facts are those of the hierarchy
-pub known_predicates : (signature : Signature) (normal : Normal) (p : Predicates) (facts : List Fact) → ArePredicatesOf signature normal p → HasPredicates signature facts
+pub known_predicates : (signature : Signature) (normal : Normal) (p : Predicates) (facts : List Fact)
+    → ArePredicatesOf signature normal p → HasPredicates signature facts
     → All (HasPredicate p.classes p.properties) facts
-known_predicates signature normal p facts of known = All-weaker (HasPredicate signature.classes signature.roles) (HasPredicate p.classes p.properties) each facts known
+known_predicates signature normal p facts of known = All-weaker (HasPredicate signature.classes signature.roles)
+    (HasPredicate p.classes p.properties) each facts known
   where
     each : (f : Fact) → HasPredicate signature.classes signature.roles f → HasPredicate p.classes p.properties f
     each (Is c a) h = (of.classes.members c).1 h
@@ -95,7 +103,8 @@ known_predicates signature normal p facts of known = All-weaker (HasPredicate si
 
 -- ---- answers
 
-certain_over : (axioms : List Axiom) (facts : List Fact) (q : Query) → IsWellFormed q → existential_variables q ≡ [] → (tuples : List (List ℕ))
+certain_over : (axioms : List Axiom) (facts : List Fact) (q : Query) → IsWellFormed q
+    → existential_variables q ≡ [] → (tuples : List (List ℕ))
     → AreExactly (HasOverNames axioms facts (at_names q)) tuples → AreCertain axioms facts q tuples
 certain_over axioms facts q formed none tuples is =
     let same = certain_at_names axioms facts q (body_in_head q formed none) in record {
@@ -103,12 +112,17 @@ certain_over axioms facts q formed none tuples is =
       exact = λ t. (λ c. (same t).1 ((is.exact t).0 c), λ h. (is.exact t).1 ((same t).0 h));
     }
 
-module _ (axioms : List Axiom) (facts : List Fact) (q : Query) (nothing : Option ℕ) (limit : ℕ) (formed : IsWellFormed q) (served : IsServed axioms q nothing) where
-  pub found_reply : (tuples : List (List ℕ)) → AreExactly (HasOverNames axioms facts (at_names q)) tuples → length tuples ≤ limit
+module _ (axioms : List Axiom) (facts : List Fact) (q : Query) (nothing : Option ℕ) (limit : ℕ)
+    (formed : IsWellFormed q) (served : IsServed axioms q nothing) where
+  pub found_reply : (tuples : List (List ℕ)) → AreExactly (HasOverNames axioms facts (at_names q)) tuples
+      → length tuples ≤ limit
       → IsReply axioms facts nothing q limit (found tuples)
   found_reply tuples is within =
-      is_found (nothing_broken axioms facts nothing served.negatives) (certain_over axioms facts q formed served.variables tuples is) within
+      is_found (nothing_broken axioms facts nothing served.negatives)
+      (certain_over axioms facts q formed served.variables tuples is) within
 
-  pub too_many_reply : AreOver limit (HasOverNames axioms facts (at_names q)) → IsReply axioms facts nothing q limit too_many
+  pub too_many_reply : AreOver limit (HasOverNames axioms facts (at_names q))
+      → IsReply axioms facts nothing q limit too_many
   too_many_reply over =
-      is_too_many (nothing_broken axioms facts nothing served.negatives) (certain_over axioms facts q formed served.variables over.tuples over.exact) over.longer
+      is_too_many (nothing_broken axioms facts nothing served.negatives)
+      (certain_over axioms facts q formed served.variables over.tuples over.exact) over.longer

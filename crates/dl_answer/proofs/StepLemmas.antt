@@ -38,7 +38,8 @@ use Rattle.dl_answer.proofs.TupleLemmas.{exactly_exists, over_exactly}
 -- ---- entries
 
 -- what a list gives comes from one of its items
-Contains-filter_map : {A B : Type 0} (f : A → Option B) (xs : List A) (y : B) → Contains (filter_map f xs) y → (x : A) × Contains xs x × (f x ≡ Some y)
+Contains-filter_map : {A B : Type 0} (f : A → Option B) (xs : List A) (y : B) → Contains (filter_map f xs) y
+    → (x : A) × Contains xs x × (f x ≡ Some y)
 Contains-filter_map f [] y h = absurd (Contains-nil y h)
 Contains-filter_map {A} {B} f (x ∷ xs) y h = by (Contains-filter_map f xs y) (f x) refl h
   where
@@ -50,9 +51,11 @@ Contains-filter_map {A} {B} f (x ∷ xs) y h = by (Contains-filter_map f xs y) (
       | inr rest ↦ let r = rec rest in (r.0, Contains-later x r.0 xs r.1, r.2)
     ]
 
-Contains-filter_map_of : {A B : Type 0} (f : A → Option B) (xs : List A) (x : A) (y : B) → Contains xs x → f x ≡ Some y → Contains (filter_map f xs) y
+Contains-filter_map_of : {A B : Type 0} (f : A → Option B) (xs : List A) (x : A) (y : B) → Contains xs x
+    → f x ≡ Some y → Contains (filter_map f xs) y
 Contains-filter_map_of f [] x y h is = absurd (Contains-nil x h)
-Contains-filter_map_of {A} {B} f (z ∷ xs) x y h is = by (λ k. Contains-filter_map_of f xs x y k is) (f z) refl (Contains-cons z x xs h)
+Contains-filter_map_of {A} {B} f (z ∷ xs) x y h is = by (λ k. Contains-filter_map_of f xs x y k is) (f z) refl
+    (Contains-cons z x xs h)
   where
     by : (Contains xs x → Contains (filter_map f xs) y) → (o : Option B) → f z ≡ o → (z ≡ x) ⊎ Contains xs x
         → Contains (cons_option o (filter_map f xs)) y
@@ -65,18 +68,22 @@ Contains-filter_map_of {A} {B} f (z ∷ xs) x y h is = by (λ k. Contains-filter
     by rec (Some w) e (inr rest) = Contains-later w y (filter_map f xs) (rec rest)
 
 -- sorted, what a list of facts gives are its entries
-pub entries_of : (entry_of : Fact → Option Entry) (facts : List Fact) (found entries : List Entry) → found ≡ filter_map entry_of facts
+pub entries_of : (entry_of : Fact → Option Entry) (facts : List Fact) (found entries : List Entry)
+    → found ≡ filter_map entry_of facts
     → IsPermutation found entries → IsNonDecreasingBy (λ e. e.0) entries → AreEntries entry_of facts entries
 entries_of entry_of facts found entries is moved up = record {
   ascending = up;
   exact = λ e. (
-    λ c. Contains-filter_map entry_of facts e (subst (λ l. Contains l e) is (Contains-permutation entries found e (IsPermutation-sym found entries moved) c)),
-    λ h. Contains-permutation found entries e moved (subst (λ l. Contains l e) (sym is) (Contains-filter_map_of entry_of facts h.0 e h.1 h.2)),
+    λ c. Contains-filter_map entry_of facts e
+        (subst (λ l. Contains l e) is (Contains-permutation entries found e (IsPermutation-sym found entries moved) c)),
+    λ h. Contains-permutation found entries e moved
+        (subst (λ l. Contains l e) (sym is) (Contains-filter_map_of entry_of facts h.0 e h.1 h.2)),
   );
 }
 
 -- the pairs of three kinds of runs, one behind the other
-pub three_runs : (none one two all x y z : List (ℕ × ℕ)) → none ≡ [] → one ≡ none ++ x → two ≡ one ++ y → all ≡ two ++ z → all ≡ (x ++ y) ++ z
+pub three_runs : (none one two all x y z : List (ℕ × ℕ)) → none ≡ [] → one ≡ none ++ x → two ≡ one ++ y
+    → all ≡ two ++ z → all ≡ (x ++ y) ++ z
 three_runs none one two all x y z empty e f g = g ∙ ap (λ l. l ++ z) (f ∙ ap (λ l. l ++ y) (e ∙ ap (λ l. l ++ x) empty))
 
 -- a set of pairs is sorted
@@ -87,27 +94,36 @@ pairs_sorted pairs up = λ k d low h.
 
 -- ---- a probe over its pairs
 
-module _ (axioms : List Axiom) (facts : List Fact) (h : Hierarchy) (index : FactsByPredicate) (behind : AreBehind h index axioms facts) (below : Below) (pairs : List (ℕ × ℕ))
+module _ (axioms : List Axiom) (facts : List Fact) (h : Hierarchy) (index : FactsByPredicate)
+    (behind : AreBehind h index axioms facts) (below : Below) (pairs : List (ℕ × ℕ))
     (set : IsSetOf pair_cmp pairs (all_pairs index.classes.items index.roles.items below)) where
   pair_below : (p : ℕ × ℕ) → Contains pairs p → IsPairBelow facts below p
-  pair_below p c = (pairs_below facts index.classes.items index.roles.items behind.indexed.classes behind.indexed.roles below p).0 ((set.members p).0 c)
+  pair_below p c = (pairs_below facts index.classes.items index.roles.items behind.indexed.classes
+      behind.indexed.roles below p).0 ((set.members p).0 c)
 
   below_pair : (p : ℕ × ℕ) → IsPairBelow facts below p → Contains pairs p
-  below_pair p b = (set.members p).1 ((pairs_below facts index.classes.items index.roles.items behind.indexed.classes behind.indexed.roles below p).1 b)
+  below_pair p b = (set.members p).1
+      ((pairs_below facts index.classes.items index.roles.items behind.indexed.classes behind.indexed.roles below
+      p).1 b)
 
   -- over the pairs of the facts below it a probe holds exactly where it holds over axioms and facts
-  pub holds_alike : (probe : Probe) → AreBelowProbe axioms h.predicates probe below → HoldsAlike axioms facts probe pairs
+  pub holds_alike : (probe : Probe) → AreBelowProbe axioms h.predicates probe below
+      → HoldsAlike axioms facts probe pairs
   holds_alike (AnyOf basics t) is names = (
-    λ w. holds_by_pair axioms facts h.predicates.classes h.predicates.properties behind.known below basics is.0 is.1 is.2 (name_of names t, w.0) (pair_below (name_of names t, w.0) w.1),
+    λ w. holds_by_pair axioms facts h.predicates.classes h.predicates.properties behind.known below basics is.0
+        is.1 is.2 (name_of names t, w.0) (pair_below (name_of names t, w.0) w.1),
     λ w.
-        let p = pair_of_held axioms facts h.predicates.classes h.predicates.properties behind.known below basics is.0 is.1 is.2 (name_of names t) w.basic w.is_one w.holds in
+        let p = pair_of_held axioms facts h.predicates.classes h.predicates.properties behind.known below basics
+        is.0 is.1 is.2 (name_of names t) w.basic w.is_one w.holds in
         (p.0, below_pair (name_of names t, p.0) p.1),
   )
   holds_alike (Joined role t u) is names = (
-    λ c. joins_by_pair axioms facts h.predicates.classes h.predicates.properties behind.known below role is.0 is.1 is.2 (name_of names t, name_of names u)
+    λ c. joins_by_pair axioms facts h.predicates.classes h.predicates.properties behind.known below role is.0 is.1
+        is.2 (name_of names t, name_of names u)
         (pair_below (name_of names t, name_of names u) c),
     λ j. below_pair (name_of names t, name_of names u)
-        (pair_of_joined axioms facts h.predicates.classes h.predicates.properties behind.known below role is.0 is.1 is.2 (name_of names t) (name_of names u) j),
+        (pair_of_joined axioms facts h.predicates.classes h.predicates.properties behind.known below role is.0
+        is.1 is.2 (name_of names t) (name_of names u) j),
   )
 
 -- ---- lists of probes
@@ -119,7 +135,8 @@ lists_none h index = record {
   each = λ axioms facts behind k p lt. absurd (omega (arith, lt));
 }
 
-lists_push : (h : Hierarchy) (index : FactsByPredicate) (probes : List Probe) (lists : List (List (ℕ × ℕ))) (probe : Probe) (pairs : List (ℕ × ℕ))
+lists_push : (h : Hierarchy) (index : FactsByPredicate) (probes : List Probe) (lists : List (List (ℕ × ℕ)))
+    (probe : Probe) (pairs : List (ℕ × ℕ))
     → AreListsOf h index probes lists → IsSorted pair_cmp pairs
     → ((axioms : List Axiom) (facts : List Fact) → AreBehind h index axioms facts → HoldsAlike axioms facts probe pairs)
     → AreListsOf h index (probes ++ probe ∷ []) (lists ++ pairs ∷ [])
@@ -130,22 +147,28 @@ lists_push h index probes lists probe pairs are sorted holds = record {
       each_push (λ j q l. HoldsAlike axioms facts q l) probes lists probe pairs are.count
       (λ j d e inside.
       let there : j < length lists = omega (arith, inside, are.count) in
-      subst (HoldsAlike axioms facts (get_or probes j d)) (get_or_default lists j [] e there) (are.each axioms facts behind j d inside))
+      subst (HoldsAlike axioms facts (get_or probes j d)) (get_or_default lists j [] e there)
+      (are.each axioms facts behind j d inside))
       (holds axioms facts behind) k p [] lt;
 }
 
-pub lists_more : (h : Hierarchy) (index : FactsByPredicate) (probes : List Probe) (i : ℕ) (probe : Probe) (old new : List (List (ℕ × ℕ))) (pairs : List (ℕ × ℕ))
-    → i < length probes → probe ≡ get_or probes i probe → AreListsOf h index (take i probes) old → new ≡ old ++ pairs ∷ [] → IsSorted pair_cmp pairs
+pub lists_more : (h : Hierarchy) (index : FactsByPredicate) (probes : List Probe) (i : ℕ) (probe : Probe)
+    (old new : List (List (ℕ × ℕ))) (pairs : List (ℕ × ℕ))
+    → i < length probes → probe ≡ get_or probes i probe → AreListsOf h index (take i probes) old
+    → new ≡ old ++ pairs ∷ [] → IsSorted pair_cmp pairs
     → ((axioms : List Axiom) (facts : List Fact) → AreBehind h index axioms facts → HoldsAlike axioms facts probe pairs)
     → AreListsOf h index (take (i + 1) probes) new
 lists_more h index probes i probe old new pairs inside at are grown sorted holds =
-    let front : take (i + 1) probes ≡ take i probes ++ probe ∷ [] = take_more probes i probe inside ∙ ap (λ q. take i probes ++ q ∷ []) (sym at) in
+    let front : take (i + 1) probes ≡ take i probes ++ probe ∷ [] = take_more probes i probe inside ∙ ap
+    (λ q. take i probes ++ q ∷ []) (sym at) in
     subst (λ ps. AreListsOf h index ps new) (sym front)
-    (subst (AreListsOf h index (take i probes ++ probe ∷ [])) (sym grown) (lists_push h index (take i probes) old probe pairs are sorted holds))
+    (subst (AreListsOf h index (take i probes ++ probe ∷ [])) (sym grown)
+    (lists_push h index (take i probes) old probe pairs are sorted holds))
 
 -- ---- tuples
 
-module _ (h : Hierarchy) (index : FactsByPredicate) (d : Disjunct) (lists : List (List (ℕ × ℕ))) (are : AreListsOf h index d.probes lists)
+module _ (h : Hierarchy) (index : FactsByPredicate) (d : Disjunct) (lists : List (List (ℕ × ℕ)))
+    (are : AreListsOf h index d.probes lists)
     (axioms : List Axiom) (facts : List Fact) (behind : AreBehind h index axioms facts) where
   -- the tuples over the lists are those over axioms and facts
   tuple_over : (tuple : List ℕ) → IsTuple d lists tuple ↔ HasOverNames axioms facts d tuple
@@ -154,22 +177,26 @@ module _ (h : Hierarchy) (index : FactsByPredicate) (d : Disjunct) (lists : List
       names = t.names;
       is_head = t.head;
       probes = λ p c.
-          subst (ProbeHolds axioms facts t.names) c.2 ((are.each axioms facts behind c.0 p c.1 t.names).0 (t.probes c.0 p c.1));
+          subst (ProbeHolds axioms facts t.names) c.2
+          ((are.each axioms facts behind c.0 p c.1 t.names).0 (t.probes c.0 p c.1));
     },
     λ t. record {
       names = t.names;
-      probes = λ k p lt. (are.each axioms facts behind k p lt t.names).1 (t.probes (get_or d.probes k p) (Contains-get_or d.probes k p lt));
+      probes = λ k p lt. (are.each axioms facts behind k p lt t.names).1
+          (t.probes (get_or d.probes k p) (Contains-get_or d.probes k p lt));
       head = t.is_head;
     },
   )
 
-  pub exactly_over : (tuples : List (List ℕ)) → AreExactly (IsTuple d lists) tuples → AreExactly (HasOverNames axioms facts d) tuples
+  pub exactly_over : (tuples : List (List ℕ)) → AreExactly (IsTuple d lists) tuples
+      → AreExactly (HasOverNames axioms facts d) tuples
   exactly_over tuples is = record {
     ascending = is.ascending;
     exact = λ t. (λ c. (tuple_over t).0 ((is.exact t).0 c), λ w. (is.exact t).1 ((tuple_over t).1 w));
   }
 
-  pub over_over : (n limit : ℕ) → AreBelow n d.probes → IsSafe d → AreMoreThan limit (IsTuple d lists) → AreOver limit (HasOverNames axioms facts d)
+  pub over_over : (n limit : ℕ) → AreBelow n d.probes → IsSafe d → AreMoreThan limit (IsTuple d lists)
+      → AreOver limit (HasOverNames axioms facts d)
   over_over n limit few safe more =
       let all = exactly_exists n d lists are.count few safe in record {
         tuples = all.0;
@@ -178,12 +205,15 @@ module _ (h : Hierarchy) (index : FactsByPredicate) (d : Disjunct) (lists : List
       }
 
 -- what a join gives is what a disjunct has
-pub gives_tuples : (h : Hierarchy) (index : FactsByPredicate) (d : Disjunct) (lists : List (List (ℕ × ℕ))) (limit : ℕ) (result : Result Table JoinFault)
+pub gives_tuples : (h : Hierarchy) (index : FactsByPredicate) (d : Disjunct) (lists : List (List (ℕ × ℕ)))
+    (limit : ℕ) (result : Result Table JoinFault)
     → AreListsOf h index d.probes lists → AreBelow d.vars d.probes → IsSafe d
     → IfOk result (λ t. AreExactly (IsTuple d lists) t.tuples) → IfOk result (λ t. length t.tuples ≤ limit)
     → (result ≡ Err TooMany → AreMoreThan limit (IsTuple d lists))
-    → (axioms : List Axiom) (facts : List Fact) → AreBehind h index axioms facts → GivesTuples (HasOverNames axioms facts d) limit result
-gives_tuples h index d lists limit (Ok t) are few safe exact within more axioms facts behind = (exactly_over h index d lists are axioms facts behind t.tuples exact, within)
+    → (axioms : List Axiom) (facts : List Fact) → AreBehind h index axioms facts
+    → GivesTuples (HasOverNames axioms facts d) limit result
+gives_tuples h index d lists limit (Ok t) are few safe exact within more axioms facts behind =
+    (exactly_over h index d lists are axioms facts behind t.tuples exact, within)
 gives_tuples h index d lists limit (Err TooMany) are few safe exact within more axioms facts behind =
     over_over h index d lists are axioms facts behind d.vars limit few safe (more refl)
 gives_tuples h index d lists limit (Err NoMemory) are few safe exact within more axioms facts behind = tt

@@ -4,14 +4,16 @@ use Rattle.dl_answer.proofs.asked.ask_facts.Goals as goal
 
 pub returns-in-Ok : goal.returns-in-Ok
 returns-in-Ok c = (
-  found_reply c.args.axioms.now c.args.facts.now c.args.query.now c.args.nothing c.args.limit c.requires.query c.requires.served c.in-Ok.tuples.tuples
+  found_reply c.args.axioms.now c.args.facts.now c.args.query.now c.args.nothing c.args.limit c.requires.query
+      c.requires.served c.in-Ok.tuples.tuples
       c.in-Ok.ensures.0 c.in-Ok.ensures.1,
   refl,
 )
 
 pub returns-in-Err-TooMany : goal.returns-in-Err-TooMany
 returns-in-Err-TooMany c = (
-  too_many_reply c.args.axioms.now c.args.facts.now c.args.query.now c.args.nothing c.args.limit c.requires.query c.requires.served
+  too_many_reply c.args.axioms.now c.args.facts.now c.args.query.now c.args.nothing c.args.limit c.requires.query
+      c.requires.served
       (rw c.in-Err-TooMany.field-0-is at c.in-Err-TooMany.ensures),
   refl,
 )

@@ -12,17 +12,20 @@ normal-requires c = few_axioms c.args.axioms.now c.requires.weight
 
 pub build-requires-clause-names : goal.build-requires-clause-names
 build-requires-clause-names c =
-    subst (HasNames c.args.signature.now) (sym (normal_is c.args.axioms.now c.in_ok-normal.normal c.in_ok-normal.ensures.rows)) c.requires.names
+    subst (HasNames c.args.signature.now)
+    (sym (normal_is c.args.axioms.now c.in_ok-normal.normal c.in_ok-normal.ensures.rows)) c.requires.names
 
 pub build-requires-clause-few : goal.build-requires-clause-few
 build-requires-clause-few c =
-    subst (AreFew c.args.signature.now) (sym (normal_is c.args.axioms.now c.in_ok-normal.normal c.in_ok-normal.ensures.rows)) c.requires.few
+    subst (AreFew c.args.signature.now)
+    (sym (normal_is c.args.axioms.now c.in_ok-normal.normal c.in_ok-normal.ensures.rows)) c.requires.few
 
 pub returns-clause-hierarchy : goal.returns-clause-hierarchy
 returns-clause-hierarchy c =
     let axioms = c.args.axioms.now in
     let normal = c.in_ok-normal.normal in
-    IfOk-weaker c.build.result (λ h. (others : List Axiom) → HasInclusions others normal → IsHierarchyOf h others) (λ h. IsHierarchyOf h axioms)
+    IfOk-weaker c.build.result (λ h. (others : List Axiom) → HasInclusions others normal → IsHierarchyOf h others)
+    (λ h. IsHierarchyOf h axioms)
     (λ h all. all axioms (inclusions_of axioms normal c.in_ok-normal.ensures.rows)) c.build.ensures.hierarchy
 
 pub returns-clause-predicates : goal.returns-clause-predicates
@@ -30,5 +33,7 @@ returns-clause-predicates c =
     let axioms = c.args.axioms.now in
     let normal = c.in_ok-normal.normal in
     let signature = c.args.signature.now in
-    IfOk-weaker c.build.result (λ h. ArePredicatesOf signature normal h.predicates) (λ h. ArePredicatesOf signature (normal_form axioms) h.predicates)
-    (λ h are. subst (λ n. ArePredicatesOf signature n h.predicates) (normal_is axioms normal c.in_ok-normal.ensures.rows) are) c.build.ensures.predicates
+    IfOk-weaker c.build.result (λ h. ArePredicatesOf signature normal h.predicates)
+    (λ h. ArePredicatesOf signature (normal_form axioms) h.predicates)
+    (λ h are. subst (λ n. ArePredicatesOf signature n h.predicates)
+    (normal_is axioms normal c.in_ok-normal.ensures.rows) are) c.build.ensures.predicates

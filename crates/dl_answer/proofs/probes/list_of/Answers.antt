@@ -14,7 +14,8 @@ use Rattle.dl_answer.proofs.probes.list_of.Goals as goal
 pub returns-clause-sorted : goal.returns-clause-sorted
 returns-clause-sorted c =
     let all = all_pairs c.args.facts.now.classes.items c.args.facts.now.roles.items c.in_ok-below.below in
-    IfOk-weaker c.pairs_below.result (λ pairs. IsSetOf pair_cmp pairs all) (IsSorted pair_cmp) (λ pairs set. pairs_sorted pairs set.ascending) c.pairs_below.ensures
+    IfOk-weaker c.pairs_below.result (λ pairs. IsSetOf pair_cmp pairs all) (IsSorted pair_cmp)
+    (λ pairs set. pairs_sorted pairs set.ascending) c.pairs_below.ensures
 
 pub returns-clause-holds : goal.returns-clause-holds
 returns-clause-holds c =
@@ -23,6 +24,8 @@ returns-clause-holds c =
     let below = c.in_ok-below.below in
     let all = all_pairs index.classes.items index.roles.items below in
     IfOk-weaker c.pairs_below.result (λ pairs. IsSetOf pair_cmp pairs all)
-    (λ pairs. (axioms : List Axiom) (facts : List Fact) → AreBehind h index axioms facts → HoldsAlike axioms facts c.args.probe.now pairs)
-    (λ pairs set axioms facts behind. holds_alike axioms facts h index behind below pairs set c.args.probe.now (c.in_ok-below.ensures axioms behind.hierarchy))
+    (λ pairs. (axioms : List Axiom) (facts : List Fact) → AreBehind h index axioms facts
+    → HoldsAlike axioms facts c.args.probe.now pairs)
+    (λ pairs set axioms facts behind. holds_alike axioms facts h index behind below pairs set c.args.probe.now
+    (c.in_ok-below.ensures axioms behind.hierarchy))
     c.pairs_below.ensures
