@@ -5,12 +5,13 @@ ghost use Rattle.dl_hier.specs.Rows.{HasNames, AreFew};
 ghost use Rattle.dl_answer.specs.Facts.{HasPredicate, HasPredicates};
 ghost use Rattle.dl_answer.specs.Replies.{normal_form, IsServed};
 
+use crate::join::are_tuples;
 use dl_answer::{Answer, AskFault, ask_facts, is_served};
 use dl_hier::fits;
 use dl_names::{NameFault, NameSet};
 use dl_normal::{normal, weight};
 use dl_query::read_query;
-use dl_terms::{Axiom, Base, Basic, Fact, List, NoMemory, Part, Query, Role, Signature, Tuples};
+use dl_terms::{Axiom, Base, Basic, Fact, List, NoMemory, Part, Query, Role, Signature};
 use std::alloc::{AllocError, Global};
 use std::test::Fail;
 
@@ -377,34 +378,6 @@ fn asked(
         return Err(AskFault::NoPin);
     }
     ask_facts(alloc, axioms, signature, facts, query, limit, None)
-}
-
-/// True where the tuple at an index is this one.
-fn is_tuple(tuples: &Tuples, i: u64, row: &[u32]) -> bool
-    requires { i < length tuples.now.tuples }
-{
-    if row.len() != tuples.width() as usize {
-        return false;
-    }
-    for j in 0..tuples.width() {
-        if tuples.name(i, j) != row[j as usize] {
-            return false;
-        }
-    }
-    true
-}
-
-/// True where the tuples are these.
-fn are_tuples(tuples: &Tuples, rows: &[&[u32]]) -> bool {
-    if tuples.len() != rows.len() as u64 {
-        return false;
-    }
-    for (i, row) in rows.iter().enumerate() {
-        if !is_tuple(tuples, i as u64, row) {
-            return false;
-        }
-    }
-    true
 }
 
 /// True where an answer has these tuples at version 1, or there are too many for it.

@@ -180,7 +180,7 @@ fn is_tuple(tuples: &Tuples, i: u64, row: &[u32]) -> bool
 }
 
 /// True where the tuples are these.
-fn are_tuples(tuples: &Tuples, rows: &[&[u32]]) -> bool {
+pub(crate) fn are_tuples(tuples: &Tuples, rows: &[&[u32]]) -> bool {
     if tuples.len() != rows.len() as u64 {
         return false;
     }
