@@ -4,3 +4,4 @@ mod PlainLemmas
 mod NegativeExampleLemmas
 mod QueryExampleLemmas
 mod ReplyExampleLemmas
+mod FoldExampleLemmas

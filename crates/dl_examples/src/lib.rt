@@ -1,4 +1,6 @@
-// What the definitions of `dl_terms` give on small ontologies and queries, worked out. Nothing stands on this crate.
+// What the definitions of `dl_terms` and `dl_tree` give on small ontologies and queries, worked out. Nothing stands on
+// this crate.
 #![tactic(auto)]
 
 pub mod examples;
+pub mod folds;
