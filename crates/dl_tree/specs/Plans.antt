@@ -23,7 +23,8 @@ pub record IsPlanFor (h : Hierarchy) (axioms : List Axiom) (q : Query) (links : 
     (tests : List (List AtomTest)) : Type 0 where
   pub hierarchy : IsHierarchyOf h axioms
   pub ascending : IsStrictlySortedBy role_cmp (roles h.predicates)
-  pub followers : (t u : Role) → MayFollow axioms t u → Contains (roles h.predicates) t → Contains (roles h.predicates) u
+  pub followers : (t u : Role) → MayFollow axioms t u → Contains (roles h.predicates) t
+      → Contains (roles h.predicates) u
   pub few : length (existential_variables q) ≤ 8
   pub masks : AreLinkMasks q (existential_variables q) links
   pub asked : AreTestsOfEach axioms q.atoms (existential_variables q) (roles h.predicates) tests

@@ -22,4 +22,5 @@ pub record IsRowOf (axioms : List Axiom) (roles : List Role) (q : Query) (number
 
 -- a table has the row of each number below 256
 abbrev pub IsTableOf : List Axiom → List Role → Query → List (List Role) → Type 0
-IsTableOf axioms roles q rows = (number : ℕ) → number < 256 → IsRowOf axioms roles q number (slice_index_or rows number [])
+IsTableOf axioms roles q rows =
+    (number : ℕ) → number < 256 → IsRowOf axioms roles q number (slice_index_or rows number [])

@@ -37,8 +37,8 @@ impl Model for TreeTable {
 
 impl TreeTable {
     /// The table of a query over a hierarchy: a row for each number from 0 to 255, whose bit `i` stands for the i-th
-    /// existential variable. A row is exact: ascending, it has the roles of the hierarchy into whose tree the set folds,
-    /// with all that shares a role atom with a member, and is no member, at the root (tree witnesses; Kikot,
+    /// existential variable. A row is exact: ascending, it has the roles of the hierarchy into whose trees the set
+    /// folds, with all that shares a role atom with a member, and is no member, at the root (tree witnesses; Kikot,
     /// Kontchakov, Zakharyaschev 2012). It is empty where the set isn't connected, and where a bit stands for no
     /// variable. Fails only for want of memory.
     pub fn build(alloc: Global, hier: &Hier, query: &Query) -> Result<TreeTable, NoMemory>
