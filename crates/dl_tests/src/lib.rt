@@ -43,6 +43,8 @@ mod run;
 #[cfg(test)]
 mod terms;
 #[cfg(test)]
+mod tree;
+#[cfg(test)]
 mod triples;
 #[cfg(test)]
 mod words;
