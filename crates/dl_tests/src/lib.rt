@@ -7,6 +7,8 @@ mod answer;
 #[cfg(test)]
 mod axioms;
 #[cfg(test)]
+mod deny;
+#[cfg(test)]
 mod faults;
 #[cfg(test)]
 mod hier;
@@ -18,6 +20,8 @@ mod io;
 mod join;
 #[cfg(test)]
 mod lex;
+#[cfg(test)]
+mod models;
 #[cfg(test)]
 mod names;
 #[cfg(test)]
