@@ -1,5 +1,5 @@
 -- The forms of words: each is one, and what the program finds in the words is it.
-use Rattle.std.proofs.Common.{◌≡◌, ℕ, ◌≤◌, ◌<◌, ◌^◌, List, [], ◌∷◌, ◌++◌, length, true, false, Option, Some, None, MatchOption, Result, Ok, Err, slice_get, get_or, drop, unwrap_or, codes, subst, refl, sym, ap, ◌∙◌, arith}
+use Rattle.std.proofs.Common.{◌≡◌, ℕ, ◌≤◌, List, [], ◌∷◌, ◌++◌, length, true, false, Option, Some, None, MatchOption, Result, Ok, slice_get, get_or, drop, unwrap_or, codes, subst, refl, sym, ap, ◌∙◌, arith}
 use Rattle.std.specs.Char.{is_ascii_digit}
 use Rattle.std.specs.List.{list_all}
 use Rattle.std.specs.Str.{all_ascii_digits}
@@ -8,7 +8,7 @@ use Rattle.std.proofs.lemmas.List.{append_cancel_left}
 use Rattle.std.specs.Str.Parse.{ParsesUnsigned, digits_value}
 use Rattle.std.proofs.lemmas.Str.Parse.{IsNumeralModel, numerals_by_value, tells_all_ascii_digits, parse_gives, digits_value_short}
 use Rattle.dl_names.specs.NameList.{Text}
-use Rattle.dl_run.specs.Words.{Form, answer, run, gen, IsNumber, AreWords, IsCommand, IsGen, HasForm, HasNoForm, is_positional, default_limit, default_shards, max_limit, max_shards, max_number, max_size}
+use Rattle.dl_run.specs.Words.{Form, answer, run, gen, IsNumber, AreWords, IsCommand, HasForm, HasNoForm, is_positional, default_limit, default_shards, max_limit, max_shards, max_number, max_size}
 use Rattle.dl_run.proofs.OptionLemmas.{AreWords-unique, same_number}
 
 -- ---- numbers

@@ -7,7 +7,8 @@ use dl_names::Names;
 use dl_terms::{Axiom, Fact, List};
 
 /// What the files of `answer` ask: the sets of axioms and facts over the numbers of names, the sets of the classes and
-/// roles that are declared, how many triples were skipped, the number of `owl:Nothing`, where it is a name, and the class whose members are asked for.
+/// roles that are declared, how many triples were skipped, the number of `owl:Nothing`, where it is a name, and the
+/// class whose members are asked for.
 #[derive(Drop)]
 pub(crate) struct Asked {
     pub names: Names,

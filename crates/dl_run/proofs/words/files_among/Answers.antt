@@ -1,7 +1,7 @@
-use Rattle.std.proofs.Common.{◌≡◌, ◌+◌, ◌++◌, map, string_bytes, length, arith, ap, sym, ◌∙◌, refl}
+use Rattle.std.proofs.Common.{◌≡◌, ◌+◌, ◌++◌, map, string_bytes, length, arith, sym, ◌∙◌, refl}
 use Rattle.std.proofs.lemmas.Bool.{false≢true}
 use Rattle.std.proofs.lemmas.List.{length-append, length-map}
-use Rattle.dl_run.proofs.OptionLemmas.{Found, found_at, files_at, no_files_at}
+use Rattle.dl_run.proofs.OptionLemmas.{found_at, files_at, no_files_at}
 use Rattle.dl_run.proofs.WordLemmas.{three_from}
 use Rattle.dl_run.proofs.words.files_among.Goals as goal
 

@@ -1,4 +1,4 @@
-use Rattle.std.proofs.Common.{◌≡◌, List, ◌∷◌, ap, sym, ◌∙◌, map, refl, string_bytes}
+use Rattle.std.proofs.Common.{◌∷◌, ap, sym, ◌∙◌, map, refl, string_bytes}
 use Rattle.std.proofs.lemmas.Bool.{false≢true}
 use Rattle.dl_run.specs.Options.OptionThen.{apart, joined}
 use Rattle.dl_run.proofs.OptionLemmas.{no_joined}
