@@ -1,7 +1,7 @@
 -- Tests of inclusions and of disjointness put together to tests of axioms, and tests of names put together to tests of
 -- facts.
-use Rattle.std.proofs.Common.{◌≡◌, ℕ, ◌+◌, ◌<◌, ◌≤◌, ◌↔◌, Bool, true, false, List, [], ◌∷◌, ◌++◌, length, take, get_or, refl, sym, ap, subst, ◌∙◌, ⊎_elim, true≢false}
-use Rattle.std.specs.List.{All, Contains}
+use Rattle.std.proofs.Common.{◌≡◌, ℕ, ◌+◌, ◌<◌, ◌≤◌, ◌↔◌, Bool, true, false, List, [], ◌∷◌, length, take, get_or, sym, ap, subst, ◌∙◌, ⊎_elim, true≢false}
+use Rattle.std.specs.List.{Contains}
 use Rattle.std.proofs.lemmas.List.{take_more, take_all}
 use Rattle.std.proofs.lemmas.List.Elements.{Contains-append_cases}
 use Rattle.dl_terms.specs.Roles.{inverse_of}
@@ -11,7 +11,7 @@ use Rattle.dl_terms.specs.declared.axiom.Part.{Part}
 use Rattle.dl_terms.specs.declared.axiom.Axiom.TheVariants.{SubClass, InverseRoles, Domain, Range, Symmetric, Asymmetric}
 use Rattle.dl_terms.specs.declared.axiom.Fact.TheVariants.{Is, Link}
 use Rattle.dl_terms.proofs.MemberLemmas.{Contains-one}
-use Rattle.dl_models.specs.Meaning.{Structure, IsInPart, RoleIsWithin, RoleIsApart, Accepts, FactHolds}
+use Rattle.dl_models.specs.Meaning.{Structure, RoleIsWithin, RoleIsApart, Accepts, FactHolds}
 use Rattle.dl_models.specs.Structures.{finite}
 use Rattle.dl_models.specs.declared.interp.Interp.{Interp}
 use Rattle.dl_models.proofs.RowLemmas.{inverse-links}
@@ -31,9 +31,10 @@ same-test b same exact = (λ e. same.0 (exact.0 e), λ h. exact.1 (same.1 h))
 
 module _ (i : Structure) where
   pub inverses : (r s : Role) → (RoleIsWithin i r (inverse_of s) × RoleIsWithin i (inverse_of s) r) ↔ Accepts i (InverseRoles r s)
-  inverses r s =
-      (λ h x y e f. (λ k. (inverse-links i s x y).0 (h.0 x y e f k), λ k. h.1 x y e f ((inverse-links i s x y).1 k)),
-      λ h. (λ x y e f k. (inverse-links i s x y).1 ((h x y e f).0 k), λ x y e f k. (h x y e f).1 ((inverse-links i s x y).0 k)))
+  inverses r s = (
+    λ h x y e f. (λ k. (inverse-links i s x y).0 (h.0 x y e f k), λ k. h.1 x y e f ((inverse-links i s x y).1 k)),
+    λ h. (λ x y e f k. (inverse-links i s x y).1 ((h x y e f).0 k), λ x y e f k. (h x y e f).1 ((inverse-links i s x y).0 k)),
+  )
 
   pub domains : (r : Role) (ps : List Part) → Accepts i (SubClass (SomeOf r) ps) ↔ Accepts i (Domain r ps)
   domains r ps = (λ h x y e f k. h x e (y, f, k), λ h x e k. h x k.0 e k.1 k.2)
@@ -78,8 +79,9 @@ module _ (model : Interp) where
 
   pub joined-some : (p a b x y : ℕ) (t : Bool) → Contains model.names (a, x) → Contains model.names (b, y) → (t ≡ true) ↔ Contains model.links (p, x, y)
       → (t ≡ true) ↔ FactHolds (finite model) (Link p a b)
-  joined-some p a b x y t at to exact =
-      (λ e. (x, y, at, to, exact.0 e),
-      λ h. exact.1
-      (subst (λ z. Contains model.links (p, z, y)) (model.valid.one_element a h.0 x h.2 at)
-      (subst (λ z. Contains model.links (p, h.0, z)) (model.valid.one_element b h.1 y h.3 to) h.4)))
+  joined-some p a b x y t at to exact = (
+    λ e. (x, y, at, to, exact.0 e),
+    λ h. exact.1
+        (subst (λ z. Contains model.links (p, z, y)) (model.valid.one_element a h.0 x h.2 at)
+        (subst (λ z. Contains model.links (p, h.0, z)) (model.valid.one_element b h.1 y h.3 to) h.4)),
+  )

@@ -1,5 +1,5 @@
 -- A search atom by atom: what is found for the first atom and the rest, and what holds where nothing is found.
-use Rattle.std.proofs.Common.{◌≡◌, ℕ, zero, suc, ◌+◌, ◌<◌, ◌≤◌, ◌↔◌, Bool, true, false, cond, List, [], ◌∷◌, ◌++◌, Result, length, take, get_or, nat_lt, refl, sym, ap, ap₂, subst, ◌∙◌, ⊎_elim, true≢false, arith, lt-ltb, ltb-true}
+use Rattle.std.proofs.Common.{◌≡◌, ℕ, suc, ◌+◌, ◌<◌, ◌≤◌, ◌↔◌, Bool, true, false, cond, List, [], ◌∷◌, Result, length, take, get_or, nat_lt, refl, sym, ap, subst, ◌∙◌, ⊎_elim, true≢false, lt-ltb, ltb-true}
 use Rattle.std.specs.List.{All, Contains}
 use Rattle.std.specs.Result.{IfOk}
 use Rattle.std.proofs.lemmas.Result.{IfOk-weaker}
@@ -52,19 +52,22 @@ module _ (model : Interp) where
       → IfOk r (λ b. (b ≡ true) ↔ ForAtom given a rest) → IfOk r (λ b. (b ≡ true) ↔ ForAtoms given atoms)
   atom-first r given atoms a rest e =
       IfOk-weaker r (λ b. (b ≡ true) ↔ ForAtom given a rest) (λ b. (b ≡ true) ↔ ForAtoms given atoms)
-      (λ b exact.
-      (λ t. let h = exact.0 t in
-      (h.0, h.1, subst (AllHold h.0) (sym e) (All-cons (AtomHolds (finite model) h.0) a rest h.2 h.3)),
-      λ h. let all = subst (AllHold h.0) e h.2 in
-      exact.1 (h.0, h.1, All-head (AtomHolds (finite model) h.0) a rest all, All-tail (AtomHolds (finite model) h.0) a rest all)))
+      (λ b exact. (
+        λ t. let h = exact.0 t in
+            (h.0, h.1, subst (AllHold h.0) (sym e) (All-cons (AtomHolds (finite model) h.0) a rest h.2 h.3)),
+        λ h. let all = subst (AllHold h.0) e h.2 in
+            exact.1 (h.0, h.1, All-head (AtomHolds (finite model) h.0) a rest all, All-tail (AtomHolds (finite model) h.0) a rest all),
+      ))
 
   -- ---- a class atom
 
   pub class-found : (given : List (ℕ × ℕ)) (c : ℕ) (t : Term) (x : ℕ) (atoms : List Atom) (b : Bool) → b ≡ true
       → (b ≡ true) ↔ ForTerms given ((t, x) ∷ []) atoms → Contains model.classes (c, x) → (true ≡ true) ↔ ForAtom given (Is c t) atoms
-  class-found given c t x atoms b found exact c_in =
-      (λ e. let h = exact.0 found in
-      (h.0, h.1, (x, All-head (λ t. StandsFor (finite model) h.0 t.0 t.1) (t, x) [] h.2, c_in), h.3), λ h. refl)
+  class-found given c t x atoms b found exact c_in = (
+    λ e. let h = exact.0 found in
+        (h.0, h.1, (x, All-head (λ t. StandsFor (finite model) h.0 t.0 t.1) (t, x) [] h.2, c_in), h.3),
+    λ h. refl,
+  )
 
   pub class-more : (given ps : List (ℕ × ℕ)) (c : ℕ) (t : Term) (atoms : List Atom) (i : ℕ) (d : ℕ × ℕ) → i < length ps
       → ((m : ℕ → ℕ) → Agrees m given → (x : ℕ) → Contains (take i ps) (c, x) → StandsFor (finite model) m t x → ¬ AllHold m atoms)
@@ -81,20 +84,22 @@ module _ (model : Interp) where
   pub class-none : (given ps : List (ℕ × ℕ)) (c : ℕ) (t : Term) (atoms : List Atom) (i : ℕ) → ps ≡ model.classes → length ps ≤ i
       → ((m : ℕ → ℕ) → Agrees m given → (x : ℕ) → Contains (take i ps) (c, x) → StandsFor (finite model) m t x → ¬ AllHold m atoms)
       → (false ≡ true) ↔ ForAtom given (Is c t) atoms
-  class-none given ps c t atoms i same long none =
-      (λ e. absurd (true≢false (sym e)),
-      λ h. absurd
-      (none h.0 h.1 h.2.0 (subst (λ l. Contains l (c, h.2.0)) (sym (take_all i ps long ∙ same)) h.2.2) h.2.1 h.3))
+  class-none given ps c t atoms i same long none = (
+    λ e. absurd (true≢false (sym e)),
+    λ h. absurd
+        (none h.0 h.1 h.2.0 (subst (λ l. Contains l (c, h.2.0)) (sym (take_all i ps long ∙ same)) h.2.2) h.2.1 h.3),
+  )
 
   -- ---- a role atom
 
   pub role-found : (given : List (ℕ × ℕ)) (p : ℕ) (t u : Term) (x y : ℕ) (atoms : List Atom) (b : Bool) → b ≡ true
       → (b ≡ true) ↔ ForTerms given ((t, x) ∷ (u, y) ∷ []) atoms → Contains model.links (p, x, y) → (true ≡ true) ↔ ForAtom given (Link p t u) atoms
-  role-found given p t u x y atoms b found exact p_in =
-      (λ e. let h = exact.0 found in
-      let Here : Term × ℕ → Type 0 = λ t. StandsFor (finite model) h.0 t.0 t.1 in
-      (h.0, h.1, (x, y, All-head Here (t, x) ((u, y) ∷ []) h.2, All-head Here (u, y) [] (All-tail Here (t, x) ((u, y) ∷ []) h.2), p_in), h.3),
-      λ h. refl)
+  role-found given p t u x y atoms b found exact p_in = (
+    λ e. let h = exact.0 found in
+        let Here : Term × ℕ → Type 0 = λ t. StandsFor (finite model) h.0 t.0 t.1 in
+        (h.0, h.1, (x, y, All-head Here (t, x) ((u, y) ∷ []) h.2, All-head Here (u, y) [] (All-tail Here (t, x) ((u, y) ∷ []) h.2), p_in), h.3),
+    λ h. refl,
+  )
 
   pub role-more : (given : List (ℕ × ℕ)) (ls : List (ℕ × ℕ × ℕ)) (p : ℕ) (t u : Term) (atoms : List Atom) (i : ℕ) (d : ℕ × ℕ × ℕ) → i < length ls
       → ((m : ℕ → ℕ) → Agrees m given → (x y : ℕ) → Contains (take i ls) (p, x, y) → StandsFor (finite model) m t x → StandsFor (finite model) m u y
@@ -107,19 +112,24 @@ module _ (model : Interp) where
       (λ (last : Contains (get_or ls i d ∷ []) (p, x, y)).
       let e = Contains-one (get_or ls i d) (p, x, y) last in
       let Here : Term × ℕ → Type 0 = λ t. StandsFor (finite model) m t.0 t.1 in
-      failed
-      (m, a, All-cons Here (t, (get_or ls i d).1) ((u, (get_or ls i d).2) ∷ []) (subst (StandsFor (finite model) m t) (sym (ap (λ q. q.1) e)) at)
-      (All-cons Here (u, (get_or ls i d).2) [] (subst (StandsFor (finite model) m u) (sym (ap (λ q. q.2) e)) to) (All-nil Here)), all))
+      failed (
+        m,
+        a,
+        All-cons Here (t, (get_or ls i d).1) ((u, (get_or ls i d).2) ∷ []) (subst (StandsFor (finite model) m t) (sym (ap (λ q. q.1) e)) at)
+            (All-cons Here (u, (get_or ls i d).2) [] (subst (StandsFor (finite model) m u) (sym (ap (λ q. q.2) e)) to) (All-nil Here)),
+        all,
+      ))
       (Contains-append_cases (take i ls) (get_or ls i d ∷ []) (p, x, y) (subst (λ l. Contains l (p, x, y)) (take_more ls i d lt) p_in))
 
   pub role-none : (given : List (ℕ × ℕ)) (ls : List (ℕ × ℕ × ℕ)) (p : ℕ) (t u : Term) (atoms : List Atom) (i : ℕ) → ls ≡ model.links → length ls ≤ i
       → ((m : ℕ → ℕ) → Agrees m given → (x y : ℕ) → Contains (take i ls) (p, x, y) → StandsFor (finite model) m t x → StandsFor (finite model) m u y
       → ¬ AllHold m atoms)
       → (false ≡ true) ↔ ForAtom given (Link p t u) atoms
-  role-none given ls p t u atoms i same long none =
-      (λ e. absurd (true≢false (sym e)),
-      λ h. absurd
-      (none h.0 h.1 h.2.0 h.2.1 (subst (λ l. Contains l (p, h.2.0, h.2.1)) (sym (take_all i ls long ∙ same)) h.2.4) h.2.2 h.2.3 h.3))
+  role-none given ls p t u atoms i same long none = (
+    λ e. absurd (true≢false (sym e)),
+    λ h. absurd
+        (none h.0 h.1 h.2.0 h.2.1 (subst (λ l. Contains l (p, h.2.0, h.2.1)) (sym (take_all i ls long ∙ same)) h.2.4) h.2.2 h.2.3 h.3),
+  )
 
   -- ---- terms, and then atoms
 
@@ -132,10 +142,11 @@ module _ (model : Interp) where
       → Adds (λ m. TermsStand m terms) old new → IfOk r (λ b. (b ≡ true) ↔ ForAtoms shown atoms) → IfOk r (λ b. (b ≡ true) ↔ ForTerms given terms atoms)
   with-more r given old new shown terms atoms same seen adds =
       IfOk-weaker r (λ b. (b ≡ true) ↔ ForAtoms shown atoms) (λ b. (b ≡ true) ↔ ForTerms given terms atoms)
-      (λ b exact.
-      (λ t. let h = exact.0 t in let k = (adds.exact h.0).0 (subst (Agrees h.0) seen h.1) in
-      (h.0, subst (Agrees h.0) same k.0, k.1, h.2),
-      λ h. exact.1 (h.0, subst (Agrees h.0) (sym seen) ((adds.exact h.0).1 (subst (Agrees h.0) (sym same) h.1, h.2)), h.3)))
+      (λ b exact. (
+        λ t. let h = exact.0 t in let k = (adds.exact h.0).0 (subst (Agrees h.0) seen h.1) in
+            (h.0, subst (Agrees h.0) same k.0, k.1, h.2),
+        λ h. exact.1 (h.0, subst (Agrees h.0) (sym seen) ((adds.exact h.0).1 (subst (Agrees h.0) (sym same) h.1, h.2)), h.3),
+      ))
 
   -- ---- a whole query
 
@@ -188,16 +199,19 @@ module _ (model : Interp) where
       → IfOk r (λ b. (b ≡ true) ↔ ForAtoms shown atoms) → IfOk r (λ b. (b ≡ true) ↔ QueryHolds (finite model) q tuple)
   query-holds r q tuple head atoms old new shown is_head is_atoms none seen adds =
       IfOk-weaker r (λ b. (b ≡ true) ↔ ForAtoms shown atoms) (λ b. (b ≡ true) ↔ QueryHolds (finite model) q tuple)
-      (λ b exact.
-      (λ t. let h = exact.0 t in
-      record {
-        values = inside h.0;
-        elements = λ v lt. inside-below h.0 v;
-        atoms = λ a c. inside-atom h.0 a (All-contains (AtomHolds (finite model) h.0) q.atoms a (subst (AllHold h.0) is_atoms h.2) c);
-        head = inside-head h.0 q.head tuple
-            (subst (λ l. GivesHead (finite model) h.0 l tuple) is_head ((adds.exact h.0).0 (subst (Agrees h.0) seen h.1)).1);
-      },
-      λ h. exact.1
-      (h.values, subst (Agrees h.values) (sym seen) ((adds.exact h.values).1
-      (λ v x c. absurd (Contains-nil (v, x) (subst (λ l. Contains l (v, x)) none c)), subst (λ l. GivesHead (finite model) h.values l tuple) (sym is_head) h.head)),
-      subst (AllHold h.values) (sym is_atoms) (All-weaker (Contains q.atoms) (AtomHolds (finite model) h.values) h.atoms q.atoms (All-contains_itself q.atoms)))))
+      (λ b exact. (
+        λ t. let h = exact.0 t in
+            record {
+              values = inside h.0;
+              elements = λ v lt. inside-below h.0 v;
+              atoms = λ a c. inside-atom h.0 a (All-contains (AtomHolds (finite model) h.0) q.atoms a (subst (AllHold h.0) is_atoms h.2) c);
+              head = inside-head h.0 q.head tuple
+                  (subst (λ l. GivesHead (finite model) h.0 l tuple) is_head ((adds.exact h.0).0 (subst (Agrees h.0) seen h.1)).1);
+            },
+        λ h. exact.1 (
+          h.values,
+          subst (Agrees h.values) (sym seen) ((adds.exact h.values).1
+              (λ v x c. absurd (Contains-nil (v, x) (subst (λ l. Contains l (v, x)) none c)), subst (λ l. GivesHead (finite model) h.values l tuple) (sym is_head) h.head)),
+          subst (AllHold h.values) (sym is_atoms) (All-weaker (Contains q.atoms) (AtomHolds (finite model) h.values) h.atoms q.atoms (All-contains_itself q.atoms)),
+        ),
+      ))

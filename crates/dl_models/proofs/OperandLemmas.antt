@@ -1,9 +1,9 @@
 -- Operands of one axiom: each with the first, and each with every later one.
-use Rattle.std.proofs.Common.{◌≡◌, ℕ, zero, suc, ◌+◌, ◌-◌, ◌<◌, ◌≤◌, ◌⊎◌, ◌↔◌, Bool, true, false, List, [], ◌∷◌, length, get_or, take, drop, refl, sym, ap, subst, ◌∙◌, ⊎_elim, true≢false, arith, length-drop, get_or-drop}
+use Rattle.std.proofs.Common.{◌≡◌, ℕ, zero, suc, ◌+◌, ◌-◌, ◌<◌, ◌≤◌, ◌↔◌, true, false, List, [], ◌∷◌, length, get_or, take, drop, refl, sym, ap, subst, ◌∙◌, ⊎_elim, true≢false, arith, length-drop, get_or-drop}
 use Rattle.std.specs.List.{All, AllPairs, Contains}
 use Rattle.std.proofs.lemmas.List.{take_all}
 use Rattle.std.proofs.lemmas.List.Elements.{All-contains}
-use Rattle.dl_terms.proofs.MemberLemmas.{Contains-first, Contains-later, Contains-cons, Contains-nil}
+use Rattle.dl_terms.proofs.MemberLemmas.{Contains-first, Contains-later, Contains-cons}
 use Rattle.dl_models.proofs.LoopLemmas.{below_or_at}
 
 -- ---- each the same as the first
@@ -70,6 +70,7 @@ module _ {A : Type 0} (R : A → A → Type 0) where
 
   pub apart-false : (xs : List A) (i : ℕ) (x : A) → i < length xs → x ≡ get_or xs i x → ¬ All (R x) (take (length xs - (i + 1)) (drop (i + 1) xs))
       → (false ≡ true) ↔ AllPairs R xs
-  apart-false xs i x lt at failed =
-      (λ t. absurd (true≢false (sym t)),
-      λ h. absurd (failed (subst (All (R x)) (sym (later-rest xs i)) (subst (λ y. All (R y) (drop (i + 1) xs)) (sym at) (each-later xs h i x lt)))))
+  apart-false xs i x lt at failed = (
+    λ t. absurd (true≢false (sym t)),
+    λ h. absurd (failed (subst (All (R x)) (sym (later-rest xs i)) (subst (λ y. All (R y) (drop (i + 1) xs)) (sym at) (each-later xs h i x lt)))),
+  )

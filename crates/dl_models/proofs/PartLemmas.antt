@@ -1,6 +1,6 @@
 -- Parts of an interpretation that fit, and names that ascend.
 use Rattle.std.proofs.Common.{◌≡◌, ℕ, zero, suc, ◌+◌, ◌-◌, ◌<◌, ◌≤◌, ◌↔◌, Bool, true, false, List, length, get_or, refl, sym, ap, subst, ◌∙◌, true≢false, arith, nat_lt, ltb-true, ltb-false}
-use Rattle.std.specs.List.{All, AllPairs, Contains}
+use Rattle.std.specs.List.{AllPairs, Contains}
 use Rattle.std.proofs.lemmas.List.Elements.{All-contains}
 use Rattle.dl_models.specs.Finite.{IsInterpretation}
 use Rattle.dl_models.specs.Parts.{AreParts}
@@ -64,6 +64,7 @@ module _ (size : ℕ) (names classes : List (ℕ × ℕ)) (links : List (ℕ × 
     where
       shown : (z : ℕ) (e : Contains names (a, z)) → get_or names e.0 (0, 0) ≡ (a, z)
       shown z e = any_default names e.0 (0, 0) (a, z) e.1 ∙ e.2
+
       by : (b : Bool) → nat_lt c.0 d.0 ≡ b → (e : Bool) → nat_lt d.0 c.0 ≡ e → x ≡ y
       by true f e g =
           let lt = up c.0 d.0 (0, 0) (ltb-true c.0 d.0 f) d.1 in

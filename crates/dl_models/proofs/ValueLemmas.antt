@@ -27,20 +27,26 @@ at-other w v x z n = ap (λ b. cond b x z) (ne_eqb w v n)
 pub new-value : (given : List (ℕ × ℕ)) (v x : ℕ) → ((y : ℕ) → ¬ Contains given (v, y)) → CanAgree given
     → Adds (λ m. m v ≡ x) given (given ++ (v, x) ∷ [])
 new-value given v x none can = record {
-  exact = λ m. (λ a. (λ w y c. a w y (Contains-append_left given ((v, x) ∷ []) (w, y) c),
-      a v x (Contains-append_right given ((v, x) ∷ []) (v, x) (Contains-first (v, x) []))),
-      λ h w y c.
-      ⊎_elim (λ (early : Contains given (w, y)). h.0 w y early)
-      (λ (last : Contains ((v, x) ∷ []) (w, y)).
-      let e = Contains-one (v, x) (w, y) last in sym (ap (λ p. m p.0) e) ∙ h.1 ∙ ap (λ p. p.1) e)
-      (Contains-append_cases given ((v, x) ∷ []) (w, y) c));
-  some = (λ w. cond (nat_eq w v) x (can.0 w),
-      λ w y c.
-      ⊎_elim (λ (early : Contains given (w, y)).
-      at-other w v x (can.0 w) (λ same. none y (subst (λ z. Contains given (z, y)) same early)) ∙ can.1 w y early)
-      (λ (last : Contains ((v, x) ∷ []) (w, y)).
-      let e = Contains-one (v, x) (w, y) last in at-same w v x (can.0 w) (sym (ap (λ p. p.0) e)) ∙ ap (λ p. p.1) e)
-      (Contains-append_cases given ((v, x) ∷ []) (w, y) c));
+  exact = λ m. (
+    λ a. (
+      λ w y c. a w y (Contains-append_left given ((v, x) ∷ []) (w, y) c),
+      a v x (Contains-append_right given ((v, x) ∷ []) (v, x) (Contains-first (v, x) [])),
+    ),
+    λ h w y c.
+        ⊎_elim (λ (early : Contains given (w, y)). h.0 w y early)
+        (λ (last : Contains ((v, x) ∷ []) (w, y)).
+        let e = Contains-one (v, x) (w, y) last in sym (ap (λ p. m p.0) e) ∙ h.1 ∙ ap (λ p. p.1) e)
+        (Contains-append_cases given ((v, x) ∷ []) (w, y) c),
+  );
+  some = (
+    λ w. cond (nat_eq w v) x (can.0 w),
+    λ w y c.
+        ⊎_elim (λ (early : Contains given (w, y)).
+        at-other w v x (can.0 w) (λ same. none y (subst (λ z. Contains given (z, y)) same early)) ∙ can.1 w y early)
+        (λ (last : Contains ((v, x) ∷ []) (w, y)).
+        let e = Contains-one (v, x) (w, y) last in at-same w v x (can.0 w) (sym (ap (λ p. p.0) e)) ∙ ap (λ p. p.1) e)
+        (Contains-append_cases given ((v, x) ∷ []) (w, y) c),
+  );
 }
 
 -- ---- conditions put together
@@ -64,9 +70,10 @@ adds_or-same Says Also old new same false h = λ m a k. h m a ((same m).1 k)
 pub adds-more : (Says More Whole : (ℕ → ℕ) → Type 0) (start old new : List (ℕ × ℕ)) → Adds Says start old → Adds More old new
     → ((m : ℕ → ℕ) → (Says m × More m) ↔ Whole m) → Adds Whole start new
 adds-more Says More Whole start old new so_far more whole = record {
-  exact = λ m.
-      (λ a. let h = (more.exact m).0 a in let k = (so_far.exact m).0 h.0 in (k.0, (whole m).0 (k.1, h.1)),
-      λ h. let p = (whole m).1 h.1 in (more.exact m).1 ((so_far.exact m).1 (h.0, p.0), p.1));
+  exact = λ m. (
+    λ a. let h = (more.exact m).0 a in let k = (so_far.exact m).0 h.0 in (k.0, (whole m).0 (k.1, h.1)),
+    λ h. let p = (whole m).1 h.1 in (more.exact m).1 ((so_far.exact m).1 (h.0, p.0), p.1),
+  );
   some = more.some;
 }
 
@@ -84,11 +91,12 @@ adds-none Says given can holds = record { exact = λ m. (λ a. (a, holds m), λ 
 
 module _ {A : Type 0} (Q : A → Type 0) where
   pub All-last : (xs : List A) (i : ℕ) (d : A) → i < length xs → (All Q (take i xs) × Q (get_or xs i d)) ↔ All Q (take (i + 1) xs)
-  All-last xs i d lt =
-      (λ h. All-more Q xs i d lt h.0 h.1,
-      λ all.
-      let both = All-split Q (take i xs) (get_or xs i d ∷ []) (subst (All Q) (take_more xs i d lt) all) in
-      (both.0, All-head Q (get_or xs i d) [] both.1))
+  All-last xs i d lt = (
+    λ h. All-more Q xs i d lt h.0 h.1,
+    λ all.
+        let both = All-split Q (take i xs) (get_or xs i d ∷ []) (subst (All Q) (take_more xs i d lt) all) in
+        (both.0, All-head Q (get_or xs i d) [] both.1),
+  )
 
   pub All-part : (xs : List A) (i : ℕ) (d : A) → i < length xs → All Q xs → All Q (take i xs) × Q (get_or xs i d)
   All-part [] i d lt all = absurd (omega (arith, lt))
@@ -138,6 +146,7 @@ module _ (i : Structure) (m : ℕ → i.Value) where
       → GivesHead i m (take k head) (take k tuple) ↔ GivesHead i m head tuple
   head-whole head tuple k same long =
       let one = take_all k head long in
-      let two = take_all k tuple (omega (arith, same, long)) in
-      (λ h. subst (λ l. GivesHead i m l tuple) one (subst (GivesHead i m (take k head)) two h),
-      λ h. subst (λ l. GivesHead i m l (take k tuple)) (sym one) (subst (GivesHead i m head) (sym two) h))
+      let two = take_all k tuple (omega (arith, same, long)) in (
+        λ h. subst (λ l. GivesHead i m l tuple) one (subst (GivesHead i m (take k head)) two h),
+        λ h. subst (λ l. GivesHead i m l (take k tuple)) (sym one) (subst (GivesHead i m head) (sym two) h),
+      )

@@ -46,7 +46,14 @@ fn holds_from(
     };
     match *atom {
         Atom::Is { class, at } => holds_in_class(alloc, model, values, class, at, rest),
-        Atom::Link { role, from, to } => holds_in_role(alloc, model, values, role, (from, to), rest),
+        Atom::Link { role, from, to } => holds_in_role(
+            alloc,
+            model,
+            values,
+            role,
+            (from, to),
+            rest,
+        ),
     }
 }
 

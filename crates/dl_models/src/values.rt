@@ -9,12 +9,7 @@ use crate::facts::{is_named, look_up};
 use dl_terms::{NoMemory, Term};
 
 /// Gives a term an element, or answers that it can't have that one beside the values given.
-fn bind(
-    model: &Interp,
-    values: &mut Vec<(u32, u32)>,
-    term: Term,
-    x: u32,
-) -> Result<bool, NoMemory>
+fn bind(model: &Interp, values: &mut Vec<(u32, u32)>, term: Term, x: u32) -> Result<bool, NoMemory>
     requires { CanAgree values.old.items }
     ensures { IfOk result (AddsOrNot (λ m. StandsFor (finite model.now) m term x)
         values.old.items values.new.items) }
@@ -26,11 +21,7 @@ fn bind(
 }
 
 /// Gives a variable an element, or answers that it has another one.
-fn bind_variable(
-    values: &mut Vec<(u32, u32)>,
-    variable: u32,
-    x: u32,
-) -> Result<bool, NoMemory>
+fn bind_variable(values: &mut Vec<(u32, u32)>, variable: u32, x: u32) -> Result<bool, NoMemory>
     requires { CanAgree values.old.items }
     ensures { IfOk result (AddsOrNot (λ m. m variable ≡ x) values.old.items values.new.items) }
 {

@@ -1,6 +1,6 @@
-use Rattle.std.proofs.Common.{ℕ, ◌<◌}
+use Rattle.std.proofs.Common.{ℕ}
 use Rattle.dl_models.specs.Meaning.{RoleLinks}
-use Rattle.std.proofs.Common.{◌≡◌, true, false, sym, true≢false, arith}
+use Rattle.std.proofs.Common.{sym, true≢false, arith}
 use Rattle.std.specs.List.{Contains}
 use Rattle.dl_models.specs.Structures.{finite}
 use Rattle.dl_models.proofs.LoopLemmas.{fails, more}

@@ -1,4 +1,4 @@
-use Rattle.std.proofs.Common.{◌<◌, arith}
+use Rattle.std.proofs.Common.{arith}
 use Rattle.dl_models.proofs.LoopLemmas.{fails}
 use Rattle.dl_models.proofs.PartLemmas.{parts-not}
 use Rattle.dl_models.proofs.made.are_parts.Goals as goal
@@ -15,12 +15,13 @@ returns-then-not-ascend c =
 
 pub returns : goal.returns
 returns c =
-    let size = c.if-size-eq0.false in
-    (λ e. record {
-      some_element = omega (arith, size);
-      ascending = c.ascend.ensures.0 c.if-not-ascend.false;
-      of_names = c.seconds_are_below.ensures.0 c.if-not-seconds_are_below.false;
-      of_classes = c.seconds_are_below-2.ensures.0 c.if-not-seconds_are_below-2.false;
-      of_links = c.ends_are_below.ensures.0 e;
-    },
-    λ h. c.ends_are_below.ensures.1 h.of_links)
+    let size = c.if-size-eq0.false in (
+      λ e. record {
+        some_element = omega (arith, size);
+        ascending = c.ascend.ensures.0 c.if-not-ascend.false;
+        of_names = c.seconds_are_below.ensures.0 c.if-not-seconds_are_below.false;
+        of_classes = c.seconds_are_below-2.ensures.0 c.if-not-seconds_are_below-2.false;
+        of_links = c.ends_are_below.ensures.0 e;
+      },
+      λ h. c.ends_are_below.ensures.1 h.of_links,
+    )

@@ -1,4 +1,4 @@
-use Rattle.dl_models.proofs.PartLemmas.{ascend-true, ascend-false, ascend-more}
+use Rattle.dl_models.proofs.PartLemmas.{ascend-true, ascend-more}
 use Rattle.dl_models.proofs.made.ascend.Goals as goal
 
 pub loop-i-preserved : goal.loop-i-preserved

@@ -1,5 +1,5 @@
 use Rattle.std.proofs.Common.{ℕ, ◌<◌, arith}
-use Rattle.dl_models.proofs.LoopLemmas.{All-more, list-true, list-false}
+use Rattle.dl_models.proofs.LoopLemmas.{All-more, list-true}
 use Rattle.dl_models.proofs.made.ends_are_below.Goals as goal
 
 pub loop-x-preserved : goal.loop-x-preserved

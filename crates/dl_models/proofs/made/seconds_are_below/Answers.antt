@@ -1,5 +1,5 @@
 use Rattle.std.proofs.Common.{ℕ, ◌<◌}
-use Rattle.dl_models.proofs.LoopLemmas.{All-more, list-true, list-false}
+use Rattle.dl_models.proofs.LoopLemmas.{All-more, list-true}
 use Rattle.dl_models.proofs.made.seconds_are_below.Goals as goal
 
 pub loop-pair-preserved : goal.loop-pair-preserved

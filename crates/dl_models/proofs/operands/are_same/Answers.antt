@@ -1,4 +1,4 @@
-use Rattle.std.proofs.Common.{sym, subst}
+use Rattle.std.proofs.Common.{subst}
 use Rattle.dl_models.proofs.LoopLemmas.{fails, All-more}
 use Rattle.dl_models.proofs.OperandLemmas.{Same, same-true, same-false}
 use Rattle.dl_models.proofs.operands.are_same.Goals as goal

@@ -1,4 +1,4 @@
-use Rattle.std.proofs.Common.{ℕ, ◌<◌}
+use Rattle.std.proofs.Common.{ℕ}
 use Rattle.dl_models.specs.Meaning.{RoleLinks}
 use Rattle.dl_models.specs.Structures.{finite}
 use Rattle.dl_models.proofs.LoopLemmas.{fails, more, all-true, all-false}

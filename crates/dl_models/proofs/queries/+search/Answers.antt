@@ -1,4 +1,4 @@
-use Rattle.std.proofs.Common.{◌≡◌, ℕ, ◌∷◌, ◌∙◌, sym, ap, subst, get_or, rules}
+use Rattle.std.proofs.Common.{◌∷◌, ◌∙◌, sym, ap, subst, get_or, rules}
 use Rattle.std.specs.List.{All, Contains}
 use Rattle.dl_terms.specs.declared.query.Atom.TheVariants.{Is, Link}
 use Rattle.dl_models.specs.Meaning.{StandsFor}
@@ -66,11 +66,12 @@ holds_with-returns-then-not-branch t c =
     c.in_ok-bind_all.field-0 c.in_ok-bind_all.ensures c.if-not-branch.true)
 
 pub holds_with-holds_from-requires : goal.holds_with-holds_from-requires
-holds_with-holds_from-requires t c =
-    (search rules,
-    subst CanAgree (sym c.as_slice.ensures.value)
-    (adds-true (λ m. All (λ t. StandsFor (finite c.args.model.now) m t.0 t.1) c.args.terms.now) c.in_ok-grown.grown.items c.bind_all.new.values.items
-    c.in_ok-bind_all.field-0 c.in_ok-bind_all.ensures c.if-not-branch.false).some)
+holds_with-holds_from-requires t c = (
+  search rules,
+  subst CanAgree (sym c.as_slice.ensures.value)
+      (adds-true (λ m. All (λ t. StandsFor (finite c.args.model.now) m t.0 t.1) c.args.terms.now) c.in_ok-grown.grown.items c.bind_all.new.values.items
+      c.in_ok-bind_all.field-0 c.in_ok-bind_all.ensures c.if-not-branch.false).some,
+)
 
 pub holds_with-returns : goal.holds_with-returns
 holds_with-returns t c =

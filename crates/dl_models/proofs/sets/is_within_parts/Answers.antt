@@ -1,4 +1,4 @@
-use Rattle.std.proofs.Common.{ℕ, ◌<◌}
+use Rattle.std.proofs.Common.{ℕ}
 use Rattle.dl_models.specs.Meaning.{IsInBasic, IsInPart}
 use Rattle.std.specs.List.{All}
 use Rattle.dl_models.specs.Structures.{finite}

@@ -1,4 +1,4 @@
-use Rattle.std.proofs.Common.{◌≡◌, ℕ, sym, subst}
+use Rattle.std.proofs.Common.{◌≡◌, sym, subst}
 use Rattle.std.specs.Result.{IfOk}
 use Rattle.dl_models.specs.Meaning.{StandsFor}
 use Rattle.dl_models.specs.Structures.{finite}

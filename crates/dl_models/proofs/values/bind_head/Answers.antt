@@ -1,4 +1,4 @@
-use Rattle.std.proofs.Common.{ℕ, ◌+◌, take, get_or, subst}
+use Rattle.std.proofs.Common.{◌+◌, take, get_or, subst}
 use Rattle.std.specs.List.{Contains}
 use Rattle.dl_models.specs.Meaning.{GivesHead}
 use Rattle.dl_models.specs.Structures.{finite}

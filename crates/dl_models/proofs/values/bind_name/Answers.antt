@@ -1,4 +1,4 @@
-use Rattle.std.proofs.Common.{◌≡◌, ℕ, sym, ap, subst, ◌∙◌}
+use Rattle.std.proofs.Common.{◌≡◌, ℕ, sym, subst}
 use Rattle.std.specs.List.{Contains}
 use Rattle.std.proofs.lemmas.Result.{IfOk-weaker}
 use Rattle.dl_models.specs.Values.{AddsOrNot}
@@ -16,5 +16,7 @@ returns c =
     IfOk-weaker c.bind_variable.result (AddsOrNot (λ m. m c.args.variable ≡ c.in-Some.x) c.args.values.now.items new)
     (AddsOrNot (λ m. Contains c.args.model.now.names (c.args.name, m c.args.variable)) c.args.values.now.items new)
     (adds_or-same (λ m. m c.args.variable ≡ c.in-Some.x) (λ m. Contains c.args.model.now.names (c.args.name, m c.args.variable)) c.args.values.now.items new
-    (λ m. (λ e. subst (λ x. Contains c.args.model.now.names (c.args.name, x)) (sym e) at,
-    λ h. c.args.model.now.valid.one_element c.args.name (m c.args.variable) c.in-Some.x h at))) c.bind_variable.ensures
+    (λ m. (
+      λ e. subst (λ x. Contains c.args.model.now.names (c.args.name, x)) (sym e) at,
+      λ h. c.args.model.now.valid.one_element c.args.name (m c.args.variable) c.in-Some.x h at,
+    ))) c.bind_variable.ensures

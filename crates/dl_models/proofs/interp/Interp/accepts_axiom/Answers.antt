@@ -48,4 +48,3 @@ pub returns-in-Irreflexive : goal.returns-in-Irreflexive
 returns-in-Irreflexive c =
     subst (λ a. (c.is_irreflexive.result ≡ true) ↔ Accepts (finite c.args.self.now) a) (sym c.in-Irreflexive.is)
     c.is_irreflexive.ensures
-
