@@ -23,8 +23,9 @@ use std::alloc::Global;
 /// version 1. `TooMany` comes exactly where no axiom is broken and there are more certain answers than the limit;
 /// `NoPin` never comes. So far queries have no existential variable, and axioms have no negative.
 ///
-/// The signature has the names of the axioms and of the facts; `fits` of `dl_hier` tests that and the count of the
-/// predicates, `weight` of `dl_normal` the weight, and `is_served` what is served so far.
+/// The signature has the names of the axioms, and the predicates are few: `fits` of `dl_hier` tests both. It has the
+/// predicates of the facts: `has_predicates` tests that, `weight` of `dl_normal` gives the weight, and `is_served` tests
+/// what is served so far.
 pub fn ask_facts(
     alloc: Global,
     axioms: &[Axiom],
