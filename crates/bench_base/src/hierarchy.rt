@@ -46,7 +46,7 @@ pub fn run<R: AllocGlobal + Print>(rt: &R, words: &[String]) -> io::Result<bool>
 }
 
 /// The hierarchy, or none where it has too many names.
-fn hier_of(
+pub(crate) fn hier_of(
     alloc: Global,
     shape: &str,
     names: u32,

@@ -5,6 +5,7 @@ mod answer;
 mod hierarchy;
 mod lex;
 mod reach;
+mod trees;
 mod triples;
 
 use std::process::ExitCode;
@@ -21,6 +22,7 @@ fn main(rt: HostRuntime) -> io::Result<ExitCode> {
         Some(word) if word.as_str() == "answer" => answer::run(&rt, &words),
         Some(word) if word.as_str() == "triples" => triples::run(&rt, &words)?,
         Some(word) if word.as_str() == "hierarchy" => hierarchy::run(&rt, &words)?,
+        Some(word) if word.as_str() == "trees" => trees::run(&rt, &words)?,
         _ => false,
     };
     if done {
@@ -31,5 +33,6 @@ fn main(rt: HostRuntime) -> io::Result<ExitCode> {
     eprintln!(rt; "bench_base {}", answer::WORDS)?;
     eprintln!(rt; "bench_base {}", triples::WORDS)?;
     eprintln!(rt; "bench_base {}", hierarchy::WORDS)?;
+    eprintln!(rt; "bench_base {}", trees::WORDS)?;
     Ok(ExitCode::FAILURE)
 }
