@@ -27,6 +27,8 @@ mod names;
 #[cfg(test)]
 mod normal;
 #[cfg(test)]
+mod numbers;
+#[cfg(test)]
 mod ontology;
 #[cfg(test)]
 mod owl;
