@@ -21,3 +21,4 @@ pub mod Forms
 pub mod Stops
 pub mod Asked
 pub mod Codes
+pub mod Signature

@@ -14,6 +14,7 @@ mod refusals;
 mod replies;
 mod scan;
 mod sets;
+mod signature;
 mod status;
 mod stop;
 mod texts;
