@@ -1,5 +1,5 @@
 -- What is printed is decided by the files, and by the words.
-use Rattle.std.proofs.Common.{◌≡◌, ℕ, ◌<◌, ◌≤◌, true, List, [], ◌∷◌, ◌++◌, length, Option, None, Some, Result, Ok, Err, IfSome, subst, ap, ◌∙◌, refl, arith}
+use Rattle.std.proofs.Common.{◌≡◌, ℕ, ◌<◌, ◌≤◌, List, [], ◌∷◌, ◌++◌, length, Option, None, Some, Result, Ok, Err, IfSome, subst, ap, ◌∙◌, refl, arith}
 use Rattle.std.specs.List.{Contains}
 use Rattle.dl_io.specs.Count.{HasRisen}
 use Rattle.dl_io.specs.Files.{max_bytes}
@@ -18,7 +18,7 @@ use Rattle.dl_run.specs.Files.{IsFileStop}
 use Rattle.dl_run.specs.Input.{Load, IsFirstTooLong, AreInput}
 use Rattle.dl_run.specs.Output.{facts_line, answers_text}
 use Rattle.dl_run.specs.Refusals.{refusal_text}
-use Rattle.dl_run.specs.Served.{is_served}
+use Rattle.dl_run.specs.Served.{IsAnswered}
 use Rattle.dl_run.specs.Words.{Form, answer, HasForm, AskFor}
 use Rattle.dl_run.specs.Wrong.{IsFirstWrong}
 use Rattle.dl_run.specs.Wrong.IsFirstWrong.{too_long}
@@ -33,7 +33,7 @@ use Rattle.dl_run.specs.declared.stop.Stop.TheVariants as stops
 use Rattle.dl_run.proofs.EndingLemmas.{if_some}
 use Rattle.dl_run.proofs.InputLemmas.{AreInput-unique}
 use Rattle.dl_run.proofs.WordLemmas.{form_unique}
-use Rattle.dl_run.proofs.WrongLemmas.{wrong_or_served, one_wrong}
+use Rattle.dl_run.proofs.WrongLemmas.{wrong_no_answer, one_wrong}
 
 -- what holds of the bytes that were read holds of the files, where the library tells them
 pub at_files : (told : Option (List ℕ → List ℕ)) (o d q : List ℕ) {x y z : List ℕ} (P : List ℕ → List ℕ → List ℕ → Type 0)
@@ -65,14 +65,14 @@ module _ {x y z : List ℕ} {load other : Load} {asked also : Query} {limit : �
 -- the bytes of the files decide why they are refused
 one_refusal : {x y z : List ℕ} {limit : ℕ} {one two : Refusal} → IsRefused x y z limit one → IsRefused x y z limit two → one ≡ two
 one_refusal (wrong w) (wrong v) = one_wrong w v
-one_refusal (wrong w) (over_limit input served reply) = absurd (wrong_or_served w input served)
-one_refusal (over_limit input served reply) (wrong w) = absurd (wrong_or_served w input served)
+one_refusal (wrong w) (over_limit input served reply) = absurd (wrong_no_answer w input served)
+one_refusal (over_limit input served reply) (wrong w) = absurd (wrong_no_answer w input served)
 one_refusal (over_limit a b c) (over_limit d e f) = refl
 
 refused_or_answered : {x y z : List ℕ} {limit : ℕ} {refusal : Refusal} {load : Load} {asked : Query} {tuples : List (List ℕ)}
-    → IsRefused x y z limit refusal → AreInput x y z load asked → is_served load ≡ true
+    → IsRefused x y z limit refusal → AreInput x y z load asked → IsAnswered load asked
     → IsReply load.axioms load.facts load.nothing asked limit (found tuples) → ⊥
-refused_or_answered (wrong w) input served reply = wrong_or_served w input served
+refused_or_answered (wrong w) input served reply = wrong_no_answer w input served
 refused_or_answered (over_limit again also many) input served reply = replies_exclude again input many reply
 
 -- the bytes of the files decide the output
@@ -157,7 +157,7 @@ module _ (o d q : List ℕ) (limit : ℕ) (told : Option (List ℕ → List ℕ)
     says_stop stops.NoMemory output is first = rw is no_memory
 
     -- the answers to what the files ask, or that they are too many
-    pub says_replies : (load : Load) (asked : Query) → AreInput x y z load asked → is_served load ≡ true
+    pub says_replies : (load : Load) (asked : Query) → AreInput x y z load asked → IsAnswered load asked
         → (output : Result Answers Stop) → RepliesTo load asked limit output → Says (AnswerOf o d q limit) told Rose (status_of output) (text_of output)
     says_replies load asked input served (Ok given) replies =
         done (if_some told (λ file_of input. rw (replies.1, replies.2, replies.3) (answers input served replies.0))

@@ -1,5 +1,5 @@
 -- The files of `answer` give one input at most, and what was read by places is one by numbers.
-use Rattle.std.proofs.Common.{◌≡◌, ◌↔◌, is_some, ℕ, ◌<◌, ◌≤◌, List, [], ◌∷◌, ◌++◌, length, map, get_or, slice_index, slice_get, Option, Some, None, subst, ap, sym, ◌∙◌, refl, arith, true≢false}
+use Rattle.std.proofs.Common.{◌≡◌, ◌↔◌, is_some, ℕ, ◌<◌, ◌≤◌, List, [], ◌∷◌, ◌++◌, length, map, flat_map, get_or, slice_index, slice_get, Option, Some, None, subst, ap, sym, ◌∙◌, refl, arith, true≢false}
 use Rattle.std.specs.Ordering.{nat_cmp}
 use Rattle.std.specs.declared.cmp.Ordering.{Ordering}
 use Rattle.std.specs.declared.cmp.Ordering.TheVariants.{Less}
@@ -10,7 +10,7 @@ use Rattle.std.proofs.lemmas.List.Elements.{All-append, All-contains, All-weaker
 use Rattle.dl_names.specs.NameList.{Text, has_name, max_names}
 use Rattle.dl_names.specs.Frozen.{IsFrozen, IsAscending}
 use Rattle.dl_names.specs.Iris.{owl_nothing}
-use Rattle.dl_names.proofs.NameListLemmas.{length-Extends, has_name-slice_get, Extends-names_after}
+use Rattle.dl_names.proofs.NameListLemmas.{length-Extends, has_name-slice_get}
 use Rattle.dl_names.proofs.FrozenLemmas.{rank-lt, number-unique}
 use Rattle.dl_names.proofs.SameFrozenLemmas.{IsFrozen-same_names, IsFrozen-same_ranks}
 use Rattle.dl_terms.specs.Sets.{IsSetOf}
@@ -19,6 +19,7 @@ use Rattle.dl_terms.specs.Occurring.{axiom_names, fact_names}
 use Rattle.dl_terms.specs.Renamed.{renamed_axiom, renamed_fact, renamed_query}
 use Rattle.dl_terms.specs.declared.axiom.Axiom.{Axiom}
 use Rattle.dl_terms.specs.declared.axiom.Fact.{Fact}
+use Rattle.dl_terms.specs.declared.axiom.Signature.{Signature}
 use Rattle.dl_terms.specs.declared.query.Query.{Query}
 use Rattle.dl_terms.proofs.AnswerLemmas.{IsSetOf-unique}
 use Rattle.dl_terms.proofs.OrderLemmas.{axioms_linear, facts_linear, numbers_linear}
@@ -30,13 +31,13 @@ use Rattle.dl_triples.specs.Reading.{IsValue}
 use Rattle.dl_triples.proofs.PlaceLemmas.{read_grows}
 use Rattle.dl_triples.proofs.ValueLemmas.{one_value as one_data}
 use Rattle.dl_run.specs.Input.{Load, IsNumberOf, AreRead, AreInput}
-use Rattle.dl_run.specs.Asked.{load_of, query_of, IsNumbered}
-use Rattle.dl_run.specs.Members.{members_of}
-use Rattle.dl_run.specs.Queries.{IsQuery}
+use Rattle.dl_query.specs.Queries.{IsValue as IsQueryValue}
+use Rattle.dl_query.proofs.ResultLemmas.{value-one}
+use Rattle.dl_run.specs.Asked.{load_of, IsNumbered}
+use Rattle.dl_run.specs.Signature.{axiom_classes, axiom_properties, fact_classes, fact_properties, IsSignatureOf}
 use Rattle.dl_run.specs.declared.answer.Asked.{Asked}
 use Rattle.dl_triples.specs.declared.reading.Triples.{Triples}
-use Rattle.dl_run.proofs.BelowLemmas.{Contains-map}
-use Rattle.dl_run.proofs.QueryLemmas.{IsQuery-unique}
+use Rattle.dl_hier.proofs.MemberLemmas.{Contains-map}
 
 -- ---- one input
 
@@ -58,41 +59,60 @@ IsNumberOf-unique names ascending text None (Some m) h k = absurd (true≢false 
 IsNumberOf-unique names ascending text (Some n) None h k = absurd (true≢false (sym (has_name-slice_get names text n h) ∙ k))
 IsNumberOf-unique names ascending text (Some n) (Some m) h k = ap Some (number-unique names ascending n m text h k)
 
-same_load : (l m : Load) → l.names ≡ m.names → l.axioms ≡ m.axioms → l.facts ≡ m.facts → l.classes ≡ m.classes → l.roles ≡ m.roles → l.skipped ≡ m.skipped → l.nothing ≡ m.nothing → l ≡ m
-same_load l m a b c d e f g = λ i. record {
+same_load : (l m : Load) → l.names ≡ m.names → l.axioms ≡ m.axioms → l.facts ≡ m.facts → l.signature ≡ m.signature → l.skipped ≡ m.skipped → l.nothing ≡ m.nothing → l ≡ m
+same_load l m a b c d e f = λ i. record {
   names = a i;
   axioms = b i;
   facts = c i;
-  classes = d i;
-  roles = e i;
-  skipped = f i;
-  nothing = g i;
+  signature = d i;
+  skipped = e i;
+  nothing = f i;
 }
+
+-- the same axioms, facts and declared names have one signature
+one_signature : {axioms others : List Axiom} {facts also : List Fact} {classes roles cs rs : List ℕ} {signature other : Signature}
+    → axioms ≡ others → facts ≡ also → classes ≡ cs → roles ≡ rs → IsSignatureOf axioms facts classes roles signature
+    → IsSignatureOf others also cs rs other → signature ≡ other
+one_signature {axioms} {others} {facts} {also} {classes} {roles} {cs} {rs} {signature} {other} a b c d one two =
+    let same_classes : (classes ++ flat_map axiom_classes axioms) ++ flat_map fact_classes facts ≡ (cs ++ flat_map axiom_classes others) ++ flat_map fact_classes also =
+    λ i. (c i ++ flat_map axiom_classes (a i)) ++ flat_map fact_classes (b i) in
+    let same_roles : (roles ++ flat_map axiom_properties axioms) ++ flat_map fact_properties facts ≡ (rs ++ flat_map axiom_properties others) ++ flat_map fact_properties also =
+    λ i. (d i ++ flat_map axiom_properties (a i)) ++ flat_map fact_properties (b i) in
+    let first = IsSetOf-unique numbers_linear _ _ _ (subst (IsSetOf nat_cmp signature.classes) same_classes one.classes_are) two.classes_are in
+    let second = IsSetOf-unique numbers_linear _ _ _ (subst (IsSetOf nat_cmp signature.roles) same_roles one.roles_are) two.roles_are in
+    λ i. record { classes = first i; roles = second i }
+
+-- a signature of what is the same
+pub signature_from : {axioms others : List Axiom} {facts also : List Fact} {classes roles cs rs : List ℕ} {signature : Signature} → axioms ≡ others
+    → facts ≡ also → classes ≡ cs → roles ≡ rs → IsSignatureOf axioms facts classes roles signature → IsSignatureOf others also cs rs signature
+signature_from {axioms} {others} {facts} {also} {classes} {roles} {cs} {rs} {signature} a b c d =
+    subst (λ (p : (List Axiom × List Fact) × (List ℕ × List ℕ)). IsSignatureOf p.0.0 p.0.1 p.1.0 p.1.1 signature)
+    (λ i. ((a i, b i), (c i, d i)))
 
 -- the files give one input at most
 pub AreInput-unique : {o d q : List ℕ} {load other : Load} {asked also : Query}
     → AreInput o d q load asked → AreInput o d q other also → (load ≡ other) × (asked ≡ also)
 AreInput-unique {o} {d} {q} {load} {other} {asked} {also} one two =
     let read = AreRead-unique one.are_read two.are_read in
-    let last = IsQuery-unique (subst (λ m. IsQuery q m one.query_read one.met) read.3 one.is_query) two.is_query in
+    let last = value-one q two.met_before one.query_read two.query_read one.met two.met
+    (subst (λ m. IsQueryValue q m one.query_read one.met) read.3 one.is_query) two.is_query in
     let frozen = subst (λ m. IsFrozen m load.names one.ranks) last.1 one.is_frozen in
     let names = IsFrozen-same_names two.met load.names other.names one.ranks two.ranks frozen two.is_frozen in
     let ranks = IsFrozen-same_ranks two.met load.names other.names one.ranks two.ranks frozen two.is_frozen in
-    let axioms = subst (λ (a : Document). IsSetOf axiom_cmp load.axioms (map (renamed_axiom (slice_index two.ranks)) a.axioms)) read.0
-    (subst (λ r. IsSetOf axiom_cmp load.axioms (map (renamed_axiom (slice_index r)) one.document.axioms)) ranks one.is_axioms) in
-    let joined : one.triples ++ one.document.facts ≡ two.triples ++ two.document.facts = λ i. read.1 i ++ (read.0 i).facts in
-    let facts = subst (λ t. IsSetOf fact_cmp load.facts (map (renamed_fact (slice_index two.ranks)) t)) joined
-    (subst (λ r. IsSetOf fact_cmp load.facts (map (renamed_fact (slice_index r)) (one.triples ++ one.document.facts))) ranks one.is_facts) in
-    let classes = subst (λ (a : Document). IsSetOf nat_cmp load.classes (map (slice_index two.ranks) a.classes)) read.0
-    (subst (λ r. IsSetOf nat_cmp load.classes (map (slice_index r) one.document.classes)) ranks one.is_classes) in
-    let roles = subst (λ (a : Document). IsSetOf nat_cmp load.roles (map (slice_index two.ranks) a.roles)) read.0
-    (subst (λ r. IsSetOf nat_cmp load.roles (map (slice_index r) one.document.roles)) ranks one.is_roles) in
+    let renamed : map (renamed_axiom (slice_index one.ranks)) one.document.axioms ≡ map (renamed_axiom (slice_index two.ranks)) two.document.axioms =
+    λ i. map (renamed_axiom (slice_index (ranks i))) (read.0 i).axioms in
+    let joined : map (renamed_fact (slice_index one.ranks)) (one.triples ++ one.document.facts) ≡ map (renamed_fact (slice_index two.ranks)) (two.triples ++ two.document.facts) =
+    λ i. map (renamed_fact (slice_index (ranks i))) (read.1 i ++ (read.0 i).facts) in
+    let axioms = IsSetOf-unique axioms_linear _ _ _ (subst (IsSetOf axiom_cmp load.axioms) renamed one.is_axioms) two.is_axioms in
+    let facts = IsSetOf-unique facts_linear _ _ _ (subst (IsSetOf fact_cmp load.facts) joined one.is_facts) two.is_facts in
+    let signature =
+    one_signature axioms facts (λ i. map (slice_index (ranks i)) (read.0 i).classes) (λ i. map (slice_index (ranks i)) (read.0 i).roles)
+    one.is_signature two.is_signature in
     let nothing =
     IsNumberOf-unique other.names two.is_frozen.ascending owl_nothing load.nothing other.nothing
     (subst (λ n. IsNumberOf n owl_nothing load.nothing) names one.is_nothing) two.is_nothing
     in (
-      same_load load other names (IsSetOf-unique axioms_linear _ _ _ axioms two.is_axioms) (IsSetOf-unique facts_linear _ _ _ facts two.is_facts)
-          (IsSetOf-unique numbers_linear _ _ _ classes two.is_classes) (IsSetOf-unique numbers_linear _ _ _ roles two.is_roles) read.2 nothing,
+      same_load load other names axioms facts signature read.2 nothing,
       one.is_asked ∙ ap (λ r. renamed_query (slice_index r) one.query_read) ranks ∙ ap (renamed_query (slice_index two.ranks)) last.0 ∙ sym two.is_asked,
     )
 
@@ -157,31 +177,24 @@ pub data_grows : {bytes : List ℕ} {names after : List Text} {triples : List Fa
     → length names ≤ length after
 data_grows {names = names} {after = after} value = length-Extends names after (read_grows value.read)
 
--- and so does reading the query
-pub query_grows : {bytes : List ℕ} {names after : List Text} {asked : Query} → IsQuery bytes names asked after → length names ≤ length after
-query_grows {names = names} {after = after} query =
-    subst (λ l. length names ≤ length l) (sym query.named) (length-Extends names _ (Extends-names_after names query.class))
-
 -- what was read by places, numbered, is the input that the bytes give
-pub input_from : (o d q : List ℕ) (document : Document) (triples : Triples) (before met : List Text) (class : ℕ) (asked : Asked)
-    → AreRead o d q document triples.facts triples.skipped before → IsQuery q before (members_of class) met
-    → length met ≤ max_names → IsNumbered met document triples class asked → AreInput o d q (load_of asked) (query_of asked)
-input_from o d q document triples before met class asked read query fits numbered = record {
+pub input_from : (o d q : List ℕ) (document : Document) (triples : Triples) (before met : List Text) (query : Query) (asked : Asked)
+    → AreRead o d q document triples.facts triples.skipped before → IsQueryValue q before query met
+    → IsNumbered met document triples query asked → AreInput o d q (load_of asked) asked.query
+input_from o d q document triples before met query asked read value numbered = record {
   document = document;
   triples = triples.facts;
-  query_read = members_of class;
+  query_read = query;
   met_before = before;
   met = met;
   are_read = rw numbered.is_skipped read;
-  is_query = query;
-  names_fit = fits;
+  is_query = value;
   ranks = numbered.ranks;
   is_frozen = numbered.is_frozen;
   is_axioms = numbered.is_axioms;
   is_facts = numbered.is_facts;
-  is_classes = numbered.is_classes;
-  is_roles = numbered.is_roles;
-  is_asked = ap members_of numbered.is_class;
+  is_signature = numbered.is_signature;
+  is_asked = numbered.is_query;
   is_nothing = numbered.is_nothing;
 }
 

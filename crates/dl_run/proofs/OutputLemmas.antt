@@ -1,17 +1,16 @@
 -- Texts printed piece by piece.
-use Rattle.std.proofs.Common.{◌≡◌, ℕ, zero, suc, ◌+◌, ◌<◌, List, [], ◌∷◌, ◌++◌, length, get_or, take, drop, codes, Some, sym, ap, subst, ◌∙◌, refl, arith, append_assoc, slice_get}
+use Rattle.std.proofs.Common.{◌≡◌, ℕ, zero, suc, ◌+◌, ◌<◌, List, [], ◌∷◌, ◌++◌, length, get_or, map, take, drop, codes, Some, sym, ap, subst, ◌∙◌, refl, arith, append_assoc, slice_get}
 use Rattle.std.specs.List.{flat_map}
 use Rattle.std.specs.Fmt.{decimal}
-use Rattle.std.proofs.lemmas.List.{append-nil, length-map}
+use Rattle.std.proofs.lemmas.List.{append-nil, length-map, map-append, take_more, length-take-le, take-append-drop}
 use Rattle.dl_io.specs.Gathering.{Gathered, Takes, TakesPrefix}
 use Rattle.dl_io.proofs.Gathered.{Takes-append, TakesPrefix-append, TakesPrefix-front}
 use Rattle.dl_names.specs.NameList.{Text}
-use Rattle.dl_run.specs.Members.{singles}
-use Rattle.dl_run.specs.Pieces.{digits_of, text_of_words}
+use Rattle.dl_run.specs.Pieces.{digits_of, separator, text_of_words}
 use Rattle.dl_run.specs.Refusals.{refusal_words, refusal_text}
 use Rattle.dl_run.specs.declared.refusals.Words.{Words}
 use Rattle.dl_run.specs.declared.stop.Refusal.{Refusal}
-use Rattle.dl_run.specs.Output.{facts_line, answers_text, tuple_line}
+use Rattle.dl_run.specs.Output.{facts_line, answers_text, iri_of, joined_texts, tuple_line}
 
 -- the first i items, and one more
 texts_next : {A : Type 0} (f : A → List ℕ) (xs : List A) (i : ℕ) (d : A) → i < length xs
@@ -42,55 +41,90 @@ module _ {A : Type 0} (f : A → List ℕ) (xs : List A) (i : ℕ) (d : A) (h : 
       (subst (TakesPrefix before now) (sym (texts_next f xs i d h)) (TakesPrefix-append before between now _ _ so_far (subst (TakesPrefix between now) is takes))))
 
 -- a refusal, from its pieces
-pub refusal_pieces : (words : Words) (digits : List ℕ) (refusal : Refusal) → digits ≡ digits_of words.number
-    → text_of_words words ≡ refusal_words refusal
-    → codes "refused: " ++ (words.before.now ++ (digits ++ (words.between.now ++ (words.behind.now ++ 10 ∷ [])))) ≡ refusal_text refusal
-refusal_pieces words digits refusal is text =
-    gathered words.before.now digits words.between.now words.behind.now
-    ∙ ap (λ d. codes "refused: " ++ ((words.before.now ++ (d ++ (words.between.now ++ words.behind.now))) ++ 10 ∷ [])) is
+pub refusal_pieces : (words : Words) (number second third : List ℕ) (refusal : Refusal) → number ≡ digits_of words.number → second ≡ digits_of words.second
+    → third ≡ digits_of words.third → text_of_words words ≡ refusal_words refusal
+    → codes "refused: " ++ (words.before.now ++ (number ++ (words.between.now ++ (second ++ (words.behind.now ++ (third ++ (words.last.now ++ 10 ∷ [])))))))
+    ≡ refusal_text refusal
+refusal_pieces words number second third refusal is_n is_s is_t text =
+    gathered words.before.now number words.between.now second words.behind.now third words.last.now
+    ∙ (λ i. codes "refused: " ++ ((words.before.now ++ (is_n i ++ (words.between.now ++ (is_s i ++ (words.behind.now ++ (is_t i ++ words.last.now)))))) ++ 10 ∷ []))
     ∙ ap (λ t. codes "refused: " ++ (t ++ 10 ∷ [])) text
   where
-    gathered : (a d b e : List ℕ) → codes "refused: " ++ (a ++ (d ++ (b ++ (e ++ 10 ∷ [])))) ≡ codes "refused: " ++ ((a ++ (d ++ (b ++ e))) ++ 10 ∷ [])
-    gathered a d b e = ap (λ t. codes "refused: " ++ t) (simp append_assoc)
+    gathered : (a d b e f g h : List ℕ) → codes "refused: " ++ (a ++ (d ++ (b ++ (e ++ (f ++ (g ++ (h ++ 10 ∷ [])))))))
+        ≡ codes "refused: " ++ ((a ++ (d ++ (b ++ (e ++ (f ++ (g ++ h)))))) ++ 10 ∷ [])
+    gathered a d b e f g h = ap (λ t. codes "refused: " ++ t) (simp append_assoc)
 
--- lines of single names
-lines_of : (names : List Text) (xs : List ℕ) → flat_map (tuple_line names) (singles xs) ≡ flat_map (λ n. tuple_line names (n ∷ [])) xs
-lines_of names [] = refl
-lines_of names (x ∷ xs) = ap (λ rest. tuple_line names (x ∷ []) ++ rest) (lines_of names xs)
+-- ---- a tuple
 
--- a line of a name, from its pieces
-line_of : (names : List Text) (n : ℕ) (text : List ℕ) → slice_get names n ≡ Some text → 40 ∷ 60 ∷ (text ++ 62 ∷ 41 ∷ 10 ∷ []) ≡ tuple_line names (n ∷ [])
-line_of names n text is = rw is (ap (λ rest. 40 ∷ 60 ∷ rest) (sym (append_assoc text (62 ∷ []) (41 ∷ 10 ∷ []))))
+-- texts, and one more
+joined_next : (texts : List Text) (text : Text) → joined_texts (texts ++ text ∷ []) ≡ joined_texts texts ++ (separator (length texts) ++ text)
+joined_next [] text = refl
+joined_next (x ∷ []) text = refl
+joined_next (x ∷ y ∷ texts) text =
+    ap (λ rest. x ++ (codes ", " ++ rest)) (joined_next (y ∷ texts) text)
+    ∙ (simp append_assoc)
 
-module _ (names : List Text) (xs : List ℕ) (i : ℕ) (h : i < length xs) (before between now : Gathered) (text : List ℕ)
-    (is : slice_get names (get_or xs i 0) ≡ Some text) (so_far : Takes before between (flat_map (tuple_line names) (singles (take i xs)))) where
-  here : Takes before between (flat_map (λ n. tuple_line names (n ∷ [])) (take i xs))
-  here = subst (Takes before between) (lines_of names (take i xs)) so_far
+-- texts, and more
+record Joined (texts more : List Text) : Type 0 where
+  rest : List ℕ
+  is : joined_texts (texts ++ more) ≡ joined_texts texts ++ rest
 
-  pub Takes-line : Takes between now (40 ∷ 60 ∷ (text ++ 62 ∷ 41 ∷ 10 ∷ [])) → Takes before now (flat_map (tuple_line names) (singles (take (i + 1) xs)))
-  Takes-line takes =
-      subst (Takes before now) (sym (lines_of names (take (i + 1) xs)))
-      (Takes-next (λ n. tuple_line names (n ∷ [])) xs i 0 h before between now _ (line_of names (get_or xs i 0) text is) here takes)
+joined_more : (texts more : List Text) → Joined texts more
+joined_more [] more = record { rest = joined_texts more; is = refl }
+joined_more (x ∷ []) [] = record { rest = []; is = sym (append-nil x) }
+joined_more (x ∷ []) (y ∷ more) = record { rest = codes ", " ++ joined_texts (y ∷ more); is = refl }
+joined_more (x ∷ y ∷ texts) more =
+    let later = joined_more (y ∷ texts) more in
+    record {
+      rest = later.rest;
+      is = ap (λ rest. x ++ (codes ", " ++ rest)) later.is ∙ (simp append_assoc);
+    }
 
-  pub TakesPrefix-line : TakesPrefix between now (40 ∷ 60 ∷ (text ++ 62 ∷ 41 ∷ 10 ∷ [])) → TakesPrefix before now (flat_map (tuple_line names) (singles xs))
-  TakesPrefix-line takes =
-      subst (TakesPrefix before now) (sym (lines_of names xs))
-      (TakesPrefix-next (λ n. tuple_line names (n ∷ [])) xs i 0 h before between now _ (line_of names (get_or xs i 0) text is) here takes)
+module _ (names : List Text) (tuple : List ℕ) (j : ℕ) (h : j < length tuple) where
+  -- the names of a tuple so far, and one more
+  names_next : joined_texts (map (iri_of names) (take (j + 1) tuple))
+      ≡ joined_texts (map (iri_of names) (take j tuple)) ++ (separator j ++ iri_of names (get_or tuple j 0))
+  names_next =
+      let long : length (map (iri_of names) (take j tuple)) ≡ j = length-map (take j tuple) (iri_of names) ∙ length-take-le j tuple (omega (arith, h)) in
+      ap (λ l. joined_texts (map (iri_of names) l)) (take_more tuple j 0 h)
+      ∙ ap joined_texts (map-append (iri_of names) (take j tuple) (get_or tuple j 0 ∷ []))
+      ∙ joined_next (map (iri_of names) (take j tuple)) (iri_of names (get_or tuple j 0))
+      ∙ ap (λ n. joined_texts (map (iri_of names) (take j tuple)) ++ (separator n ++ iri_of names (get_or tuple j 0))) long
+
+  whole : Joined (map (iri_of names) (take (j + 1) tuple)) (map (iri_of names) (drop (j + 1) tuple))
+  whole = joined_more (map (iri_of names) (take (j + 1) tuple)) (map (iri_of names) (drop (j + 1) tuple))
+
+  all_names : joined_texts (map (iri_of names) (take (j + 1) tuple)) ++ whole.rest ≡ joined_texts (map (iri_of names) tuple)
+  all_names =
+      sym whole.is
+      ∙ ap joined_texts (sym (map-append (iri_of names) (take (j + 1) tuple) (drop (j + 1) tuple)) ∙ ap (map (iri_of names)) (take-append-drop (j + 1) tuple))
+
+  module _ (before between now : Gathered) (first text : List ℕ) (is : slice_get names (get_or tuple j 0) ≡ Some text) (first_is : first ≡ separator j)
+      (so_far : Takes before between (joined_texts (map (iri_of names) (take j tuple)))) where
+    piece : first ++ (60 ∷ (text ++ 62 ∷ [])) ≡ separator j ++ iri_of names (get_or tuple j 0)
+    piece = rw (first_is, is) refl
+
+    pub Takes-name : Takes between now (first ++ (60 ∷ (text ++ 62 ∷ []))) → Takes before now (joined_texts (map (iri_of names) (take (j + 1) tuple)))
+    Takes-name takes =
+        subst (Takes before now) (sym names_next) (Takes-append before between now _ _ so_far (subst (Takes between now) piece takes))
+
+    pub TakesPrefix-name : TakesPrefix between now (first ++ (60 ∷ (text ++ 62 ∷ []))) → TakesPrefix before now (joined_texts (map (iri_of names) tuple))
+    TakesPrefix-name takes =
+        subst (TakesPrefix before now) all_names
+        (TakesPrefix-front before now _ _
+        (subst (TakesPrefix before now) (sym names_next) (TakesPrefix-append before between now _ _ so_far (subst (TakesPrefix between now) piece takes))))
 
 -- the two lines with counts, as they are printed
 abbrev pub counts_text : List ℕ → List ℕ → List ℕ → List ℕ
 counts_text facts skipped count = codes "facts " ++ (facts ++ (codes " skipped " ++ (skipped ++ (codes "\nanswers " ++ (count ++ 10 ∷ [])))))
 
 -- and the lines of the answers behind them
-module _ (names : List Text) (facts skipped : ℕ) (found : List ℕ) (f k n : List ℕ) (is_f : f ≡ decimal facts) (is_k : k ≡ decimal skipped)
+module _ (names : List Text) (facts skipped : ℕ) (found : List (List ℕ)) (f k n : List ℕ) (is_f : f ≡ decimal facts) (is_k : k ≡ decimal skipped)
     (is_n : n ≡ decimal (length found)) where
   parts : (f k n l : List ℕ) → counts_text f k n ++ l ≡ (codes "facts " ++ (f ++ (codes " skipped " ++ (k ++ 10 ∷ [])))) ++ (codes "answers " ++ (n ++ 10 ∷ l))
   parts f k n l = simp append_assoc
 
-  pub output_text : counts_text f k n ++ flat_map (tuple_line names) (singles found) ≡ facts_line facts skipped ++ answers_text names (singles found)
+  pub output_text : counts_text f k n ++ flat_map (tuple_line names) found ≡ facts_line facts skipped ++ answers_text names found
   output_text =
-      parts f k n (flat_map (tuple_line names) (singles found))
-      ∙ ap (λ f. (codes "facts " ++ (f ++ (codes " skipped " ++ (k ++ 10 ∷ [])))) ++ (codes "answers " ++ (n ++ 10 ∷ flat_map (tuple_line names) (singles found)))) is_f
-      ∙ ap (λ k. (codes "facts " ++ (decimal facts ++ (codes " skipped " ++ (k ++ 10 ∷ [])))) ++ (codes "answers " ++ (n ++ 10 ∷ flat_map (tuple_line names) (singles found)))) is_k
-      ∙ ap (λ n. facts_line facts skipped ++ (codes "answers " ++ (n ++ 10 ∷ flat_map (tuple_line names) (singles found))))
-      (is_n ∙ ap decimal (sym (length-map found (λ a. a ∷ []))))
+      parts f k n (flat_map (tuple_line names) found)
+      ∙ (λ i. (codes "facts " ++ (is_f i ++ (codes " skipped " ++ (is_k i ++ 10 ∷ [])))) ++ (codes "answers " ++ (is_n i ++ 10 ∷ flat_map (tuple_line names) found)))

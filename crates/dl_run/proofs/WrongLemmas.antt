@@ -1,11 +1,6 @@
--- Of the things that are wrong with the files one is the first, and where one is, the files give no load that is served.
-use Rattle.std.proofs.Common.{◌≡◌, ◌≢◌, ℕ, ◌≤◌, inl, inr, List, [], ◌∷◌, length, true, false, Result, Ok, Err, subst, ap, sym, ◌∙◌, refl, arith, true≢false}
-use Rattle.dl_names.specs.NameList.{Text, has_name, names_after, place_of, max_names}
-use Rattle.dl_names.specs.declared.fault.NameFault.{NameFault}
-use Rattle.dl_names.specs.declared.fault.NameFault.TheVariants as names
-use Rattle.dl_names.proofs.NameListLemmas.{names_after-new}
-use Rattle.std.proofs.lemmas.List.{length-append}
-use Rattle.dl_run.specs.Members.{members_of}
+-- Of the things that are wrong with the files one is the first, and where one is, the files give nothing that is answered.
+use Rattle.std.proofs.Common.{◌≡◌, ◌≢◌, ℕ, List, [], Result, Ok, Err, subst, ap, sym, ◌∙◌, refl, arith}
+use Rattle.dl_names.specs.NameList.{Text}
 use Rattle.dl_terms.specs.declared.axiom.Fact.{Fact}
 use Rattle.dl_terms.specs.declared.query.Query.{Query}
 use Rattle.dl_owl.specs.declared.document.Document.{Document}
@@ -20,23 +15,25 @@ use Rattle.dl_triples.specs.declared.fault.TripleFault.TheVariants as triples
 use Rattle.dl_triples.specs.declared.reading.Triples.{Triples}
 use Rattle.dl_triples.specs.Reading.{IsFirstFault}
 use Rattle.dl_triples.proofs.ValueLemmas.{one_first, value_no_fault}
-use Rattle.dl_run.specs.Asked.{Gives, GivesPlace, IsNumbered, load_of}
+use Rattle.dl_query.specs.declared.fault.QueryFault.{QueryFault}
+use Rattle.dl_query.specs.declared.fault.QueryFault.TheVariants as query
+use Rattle.dl_query.specs.Queries.{IsValue, HasFault}
+use Rattle.dl_query.proofs.ResultLemmas.{fault-one, not-both}
+use Rattle.dl_run.specs.Asked.{Gives, IsJudged, IsMade, IsNumbered, load_of}
 use Rattle.dl_run.specs.Input.{Load, IsFirstTooLong, AllFit, AreRead, AreInput}
 use Rattle.dl_run.specs.Input.IsFirstTooLong.{ontology_is, data_is, query_is}
-use Rattle.dl_run.specs.Queries.{AsksFor, IsQuery}
-use Rattle.dl_run.specs.Served.{is_served}
-use Rattle.dl_run.specs.Stops.{stop_of_ontology, stop_of_data, stop_of_names}
-use Rattle.dl_run.specs.Wrong.{HasNoRoom, IsNotBuilt, IsFirstWrong}
-use Rattle.dl_run.specs.Wrong.IsNotBuilt.{query_form, load_form}
-use Rattle.dl_run.specs.Wrong.IsFirstWrong.{too_long, in_ontology, in_data, in_query, not_built}
+use Rattle.dl_run.specs.Served.{IsAnswered}
+use Rattle.dl_run.specs.Stops.{stop_of_ontology, stop_of_data, stop_of_query}
+use Rattle.dl_run.specs.Wrong.{IsLoadWrong, IsFirstWrong}
+use Rattle.dl_run.specs.Wrong.IsFirstWrong.{too_long, in_ontology, in_data, in_query, in_load}
 use Rattle.dl_run.specs.declared.answer.Asked.{Asked}
 use Rattle.dl_run.specs.declared.stop.InputFile.{InputFile}
 use Rattle.dl_run.specs.declared.stop.Refusal.{Refusal}
-use Rattle.dl_run.specs.declared.stop.Refusal.TheVariants.{TooLong, NotBuilt}
+use Rattle.dl_run.specs.declared.stop.Refusal.TheVariants.{TooLong}
 use Rattle.dl_run.specs.declared.stop.Stop.{Stop}
 use Rattle.dl_run.specs.declared.stop.Stop.TheVariants.{Refused, ReadFault, NoMemory}
 use Rattle.dl_run.proofs.InputLemmas.{AreRead-unique, AreInput-unique, input_from}
-use Rattle.dl_run.proofs.QueryLemmas.{AsksFor-unique}
+use Rattle.dl_run.proofs.LimitLemmas.{one_load_wrong, wrong_or_answered}
 
 same_refusal : {one two : Refusal} (a b : Stop) → a ≡ Refused one → b ≡ Refused two → a ≡ b → one ≡ two
 same_refusal a b x y z = cc
@@ -76,79 +73,63 @@ module _ {o d q : List ℕ} where
       let same = (one_value o prologue [] other document m read.first value read.is_ontology).1 in
       value_no_fault d read.first t k n fault read.is_data (subst (λ l. IsFirstFault d l fault) same first)
 
-  -- nor, where the query has its form and its name fits, is anything wrong with it
-  input_has_room : {load : Load} {asked : Query} {document : Document} {t : List Fact} {k : ℕ} {n : List Text}
-      → AreInput o d q load asked → AreRead o d q document t k n → HasNoRoom q n → ⊥
-  input_has_room {n = n} input read full =
+  -- where the query has a value, it has no fault
+  read_no_query : {load : Load} {asked : Query} {document : Document} {t : List Fact} {k : ℕ} {n after : List Text} {fault : QueryFault}
+      → AreInput o d q load asked → AreRead o d q document t k n → HasFault q n fault after → ⊥
+  read_no_query {n = n} {after = after} {fault = fault} input read first =
       let same = (AreRead-unique input.are_read read).3 in
-      let class = AsksFor-unique input.is_query.asks full.asks in
-      let after : input.met ≡ names_after n full.class =
-      input.is_query.named ∙ ap (λ l. names_after l input.is_query.class) same ∙ ap (names_after n) class in
-      omega (arith, input.names_fit, full.full, ap length after)
+      not-both q n input.query_read fault input.met after (subst (λ m. IsValue q m input.query_read input.met) same input.is_query) first
 
-  -- what isn't built is no load that is served
-  pub not_built_or_served : {load : Load} {asked : Query} → IsNotBuilt o d q → AreInput o d q load asked → is_served load ≡ true → ⊥
-  not_built_or_served (query_form read none) input served = none input.is_query.class input.is_query.asks
-  not_built_or_served (load_form again not) input served =
-      true≢false (sym served ∙ ap is_served (AreInput-unique input again).0 ∙ not)
+  -- where something is wrong, there is nothing that is answered
+  pub wrong_no_answer : {load : Load} {asked : Query} {refusal : Refusal} → IsFirstWrong o d q refusal → AreInput o d q load asked
+      → IsAnswered load asked → ⊥
+  wrong_no_answer (too_long long) input answered = long_or_fit long input.are_read.fit
+  wrong_no_answer (in_ontology fit first is) input answered = value_no_owl_fault input.are_read.is_ontology first
+  wrong_no_answer (in_data fit value first is) input answered = read_no_first input.are_read value first
+  wrong_no_answer (in_query read first is) input answered = read_no_query input read first
+  wrong_no_answer {load} {asked} {refusal} (in_load {load = other} {asked = also} again wrong) input answered =
+      let same = AreInput-unique again input in
+      wrong_or_answered (subst (λ (u : Query). IsLoadWrong load u refusal) same.1
+      (subst (λ (l : Load). IsLoadWrong l also refusal) same.0 wrong)) answered
 
-  -- where something is wrong, there is no load that is served
-  pub wrong_or_served : {load : Load} {asked : Query} {refusal : Refusal} → IsFirstWrong o d q refusal → AreInput o d q load asked
-      → is_served load ≡ true → ⊥
-  wrong_or_served (too_long long) input served = long_or_fit long input.are_read.fit
-  wrong_or_served (in_ontology fit first is) input served = value_no_owl_fault input.are_read.is_ontology first
-  wrong_or_served (in_data fit value first is) input served = read_no_first input.are_read value first
-  wrong_or_served (in_query read full) input served = input_has_room input read full
-  wrong_or_served (not_built not) input served = not_built_or_served not input served
-
-  not_built_fits : IsNotBuilt o d q → AllFit o d q
-  not_built_fits (query_form read none) = read.fit
-  not_built_fits (load_form input not) = input.are_read.fit
-
-  not_built_no_owl : {fault : OwlFault} → IsNotBuilt o d q → IsFault o prologue [] fault → ⊥
-  not_built_no_owl (query_form read none) first = value_no_owl_fault read.is_ontology first
-  not_built_no_owl (load_form input not) first = value_no_owl_fault input.are_read.is_ontology first
-
-  not_built_no_first : {other : Document} {m : List Text} {fault : TripleFault} → IsNotBuilt o d q → ReadsValue o prologue [] other m
-      → IsFirstFault d m fault → ⊥
-  not_built_no_first (query_form read none) value first = read_no_first read value first
-  not_built_no_first (load_form input not) value first = read_no_first input.are_read value first
-
-  not_built_has_room : {document : Document} {t : List Fact} {k : ℕ} {n : List Text} → IsNotBuilt o d q → AreRead o d q document t k n
-      → HasNoRoom q n → ⊥
-  not_built_has_room (query_form read none) again full = none full.class full.asks
-  not_built_has_room (load_form input not) again full = input_has_room input again full
+  same_load_wrong : {load other : Load} {asked also : Query} {one two : Refusal} → AreInput o d q load asked → AreInput o d q other also
+      → IsLoadWrong load asked one → IsLoadWrong other also two → one ≡ two
+  same_load_wrong {load} {other} {asked} {also} {one} {two} input again wrong more =
+      let same = AreInput-unique again input in
+      one_load_wrong wrong (subst (λ (u : Query). IsLoadWrong load u two) same.1 (subst (λ (l : Load). IsLoadWrong l also two) same.0 more))
 
   -- one thing is the first that is wrong
   pub one_wrong : {one two : Refusal} → IsFirstWrong o d q one → IsFirstWrong o d q two → one ≡ two
   one_wrong (too_long a) (too_long b) = ap TooLong (one_too_long a b)
   one_wrong (too_long a) (in_ontology fit first is) = absurd (long_or_fit a fit)
   one_wrong (too_long a) (in_data fit value first is) = absurd (long_or_fit a fit)
-  one_wrong (too_long a) (in_query read full) = absurd (long_or_fit a read.fit)
-  one_wrong (too_long a) (not_built not) = absurd (long_or_fit a (not_built_fits not))
+  one_wrong (too_long a) (in_query read first is) = absurd (long_or_fit a read.fit)
+  one_wrong (too_long a) (in_load input wrong) = absurd (long_or_fit a input.are_read.fit)
   one_wrong (in_ontology fit first is) (too_long b) = absurd (long_or_fit b fit)
   one_wrong (in_ontology fit first is) (in_ontology fit' first' is') =
       same_refusal _ _ is is' (ap stop_of_ontology (one_owl_fault first first'))
   one_wrong (in_ontology fit first is) (in_data fit' value first' is') = absurd (value_no_owl_fault value first)
-  one_wrong (in_ontology fit first is) (in_query read full) = absurd (value_no_owl_fault read.is_ontology first)
-  one_wrong (in_ontology fit first is) (not_built not) = absurd (not_built_no_owl not first)
+  one_wrong (in_ontology fit first is) (in_query read first' is') = absurd (value_no_owl_fault read.is_ontology first)
+  one_wrong (in_ontology fit first is) (in_load input wrong) = absurd (value_no_owl_fault input.are_read.is_ontology first)
   one_wrong (in_data fit value first is) (too_long b) = absurd (long_or_fit b fit)
   one_wrong (in_data fit value first is) (in_ontology fit' first' is') = absurd (value_no_owl_fault value first')
   one_wrong (in_data {document = document} {names = m} {fault = f} fit value first is) (in_data {document = other} {names = n} {fault = g} fit' value' first' is') =
       let same = (one_value o prologue [] document other m n value value').1 in
       same_refusal _ _ is is' (ap stop_of_data (one_first d n f g (subst (λ l. IsFirstFault d l f) same first) first'))
-  one_wrong (in_data fit value first is) (in_query read full) = absurd (read_no_first read value first)
-  one_wrong (in_data fit value first is) (not_built not) = absurd (not_built_no_first not value first)
-  one_wrong (in_query read full) (too_long b) = absurd (long_or_fit b read.fit)
-  one_wrong (in_query read full) (in_ontology fit first is) = absurd (value_no_owl_fault read.is_ontology first)
-  one_wrong (in_query read full) (in_data fit value first is) = absurd (read_no_first read value first)
-  one_wrong (in_query read full) (in_query read' full') = refl
-  one_wrong (in_query read full) (not_built not) = absurd (not_built_has_room not read full)
-  one_wrong (not_built not) (too_long b) = absurd (long_or_fit b (not_built_fits not))
-  one_wrong (not_built not) (in_ontology fit first is) = absurd (not_built_no_owl not first)
-  one_wrong (not_built not) (in_data fit value first is) = absurd (not_built_no_first not value first)
-  one_wrong (not_built not) (in_query read full) = absurd (not_built_has_room not read full)
-  one_wrong (not_built not) (not_built also) = refl
+  one_wrong (in_data fit value first is) (in_query read first' is') = absurd (read_no_first read value first)
+  one_wrong (in_data fit value first is) (in_load input wrong) = absurd (read_no_first input.are_read value first)
+  one_wrong (in_query read first is) (too_long b) = absurd (long_or_fit b read.fit)
+  one_wrong (in_query read first is) (in_ontology fit first' is') = absurd (value_no_owl_fault read.is_ontology first')
+  one_wrong (in_query read first is) (in_data fit value first' is') = absurd (read_no_first read value first')
+  one_wrong (in_query {names = m} {after = after} {fault = f} read first is) (in_query {names = n} {after = after'} {fault = g} read' first' is') =
+      let same = (AreRead-unique read read').3 in
+      same_refusal _ _ is is' (ap stop_of_query (fault-one q n f g after after' (subst (λ l. HasFault q l f after) same first) first').0)
+  one_wrong (in_query read first is) (in_load input wrong) = absurd (read_no_query input read first)
+  one_wrong (in_load input wrong) (too_long b) = absurd (long_or_fit b input.are_read.fit)
+  one_wrong (in_load input wrong) (in_ontology fit first is) = absurd (value_no_owl_fault input.are_read.is_ontology first)
+  one_wrong (in_load input wrong) (in_data fit value first is) = absurd (read_no_first input.are_read value first)
+  one_wrong (in_load input wrong) (in_query read first is) = absurd (read_no_query input read first)
+  one_wrong (in_load input wrong) (in_load again more) = same_load_wrong input again wrong more
 
 -- ---- what the readers' faults mean
 
@@ -191,50 +172,40 @@ module _ (o d q : List ℕ) (fit : AllFit o d q) where
         by fault NoMemory is told = tt
 
     module _ (listed : List Fact) (skipped : ℕ) (names : List Text) (read : AreRead o d q document listed skipped names) where
-      -- so does a query of another form, and one whose name has no place
-      pub query_stops : (stop : Stop) (after : List Text) (r : Result Asked Stop) → r ≡ Err stop → GivesPlace q names after (Err stop) → Gives o d q r
-      query_stops stop after r is gives = rw is (by stop gives)
+      -- and a fault of the query
+      pub query_stops : (fault : QueryFault) (after : List Text) (stop : Stop) (r : Result Asked Stop) → r ≡ Err stop → stop ≡ stop_of_query fault
+          → (fault ≢ query.NoMemory → HasFault q names fault after) → Gives o d q r
+      query_stops fault after stop r is made told = rw (is, made) (by fault (stop_of_query fault) refl told)
         where
-          by : (stop : Stop) → GivesPlace q names after (Err stop) → Gives o d q (Err stop)
-          by (Refused refusal) (inl full) = rw full.1 (in_query read full.0)
-          by (Refused refusal) (inr none) = rw none.1 (not_built (query_form read none.0))
-          by ReadFault gives = gives
-          by NoMemory gives = tt
+          by : (fault : QueryFault) (stop : Stop) → stop_of_query fault ≡ stop → (fault ≢ query.NoMemory → HasFault q names fault after)
+              → Gives o d q (Err stop)
+          by fault (Refused refusal) is told =
+              let t = told (λ none. let no : NoMemory ≡ Refused refusal = ap stop_of_query (sym none) ∙ is in cc) in
+              in_query read t is
+          by (query.Syntax n) ReadFault is told = cc
+          by (query.Reserved n) ReadFault is told = cc
+          by (query.TooManyNames n) ReadFault is told = cc
+          by (query.Unsafe n) ReadFault is told = cc
+          by (query.TooLarge a e h) ReadFault is told = cc
+          by query.NoMemory ReadFault is told = cc
+          by fault NoMemory is told = tt
 
 -- want of memory stops it, too
 pub memory_stops : (o d q : List ℕ) (stop : Stop) (r : Result Asked Stop) → r ≡ Err stop → stop ≡ NoMemory → Gives o d q r
 memory_stops o d q stop r is made = rw (is, made) tt
 
--- ---- the query
-
--- its class has a place, or there is no room for it
-pub place_stops : (q : List ℕ) (before after : List Text) (class : Text) → AsksFor q class → (fault : NameFault) (stop : Stop) (r : Result ℕ Stop)
-    → r ≡ Err stop → stop ≡ stop_of_names fault
-    → (fault ≡ names.Full → (length before ≡ max_names) × (has_name before class ≡ false)) → GivesPlace q before after r
-place_stops q before after class asks names.Full stop r is made full =
-    let at = full refl in
-    rw (is, made) (inl (
-      record {
-        class = class;
-        asks = asks;
-        full = omega (arith, at.0, ap length (names_after-new before class at.1), length-append before (class ∷ []));
-      },
-      refl,
-    ))
-place_stops q before after class asks names.NoMemory stop r is made full = rw (is, made) tt
-
-pub place_given : (q : List ℕ) (before after : List Text) (class : Text) (place : ℕ) → AsksFor q class → after ≡ names_after before class
-    → place ≡ place_of (names_after before class) class → IsQuery q before (members_of place) after
-place_given q before after class place asks named at =
-    record { class = class; asks = asks; named = named; is = ap members_of (at ∙ ap (λ l. place_of l class) (sym named)) }
-
 -- ---- what was read, numbered
 
-module _ (o d q : List ℕ) (document : Document) (listed : Triples) (before met : List Text) (class : ℕ) (asked : Asked)
-    (read : AreRead o d q document listed.facts listed.skipped before) (query : IsQuery q before (members_of class) met)
-    (fits : length met ≤ max_names) (numbered : IsNumbered met document listed class asked) where
-  pub gives_asked : is_served (load_of asked) ≡ true → Gives o d q (Ok asked)
-  gives_asked served = (input_from o d q document listed before met class asked read query fits numbered, served)
+module _ (o d q : List ℕ) (document : Document) (listed : Triples) (before met : List Text) (read : Query) (asked : Asked)
+    (are : AreRead o d q document listed.facts listed.skipped before) (value : IsValue q before read met)
+    (numbered : IsNumbered met document listed read asked) where
+  pub gives_asked : IsAnswered (load_of asked) asked.query → IsMade asked → Gives o d q (Ok asked)
+  gives_asked answered made = (input_from o d q document listed before met read asked are value numbered, answered, made)
 
-  pub gives_not_built : is_served (load_of asked) ≡ false → Gives o d q (Err (Refused NotBuilt))
-  gives_not_built not = not_built (load_form (input_from o d q document listed before met class asked read query fits numbered) not)
+  pub gives_stop : (stop : Stop) (r : Result Asked Stop) → r ≡ Err stop → IsJudged asked (Err stop) → Gives o d q r
+  gives_stop stop r is judged = rw is (by stop judged)
+    where
+      by : (stop : Stop) → IsJudged asked (Err stop) → Gives o d q (Err stop)
+      by (Refused refusal) judged = in_load (input_from o d q document listed before met read asked are value numbered) judged
+      by ReadFault judged = absurd judged
+      by NoMemory judged = tt

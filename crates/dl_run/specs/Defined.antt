@@ -1,10 +1,10 @@
 -- The defined output of the program: for words and files the status and the text, as far as they decide it.
-use Rattle.std.specs.Prelude.{◌≡◌, ℕ, true, List, ◌++◌, length}
+use Rattle.std.specs.Prelude.{ℕ, List, ◌++◌, length}
 use Rattle.dl_terms.specs.Reply.{IsReply, found, too_many}
 use Rattle.dl_terms.specs.declared.query.Query.{Query}
 use Rattle.dl_run.specs.Words.{Form, answer, run, gen, HasForm, HasNoForm}
 use Rattle.dl_run.specs.Input.{Load, AreInput}
-use Rattle.dl_run.specs.Served.{is_served}
+use Rattle.dl_run.specs.Served.{IsAnswered}
 use Rattle.dl_run.specs.Wrong.{IsFirstWrong}
 use Rattle.dl_run.specs.Output.{facts_line, answers_text}
 use Rattle.dl_run.specs.declared.status.Status.{Status}
@@ -17,7 +17,7 @@ use Rattle.dl_run.specs.Texts.{usage_text}
 -- `answer` refuses the bytes of its three files for this cause
 pub data IsRefused (ontology facts query : List ℕ) (limit : ℕ) : Refusal → Type 0 where
   wrong : {refusal : Refusal} → IsFirstWrong ontology facts query refusal → IsRefused ontology facts query limit refusal
-  over_limit : {load : Load} {asked : Query} → AreInput ontology facts query load asked → is_served load ≡ true
+  over_limit : {load : Load} {asked : Query} → AreInput ontology facts query load asked → IsAnswered load asked
       → IsReply load.axioms load.facts load.nothing asked limit too_many
       → IsRefused ontology facts query limit (TooMany limit)
 
@@ -26,7 +26,7 @@ pub data AnswerPrints (ontology facts query : List ℕ) (limit : ℕ) : Status �
   refused : {refusal : Refusal} → IsRefused ontology facts query limit refusal
       → AnswerPrints ontology facts query limit status.Refused (refusal_text refusal)
   answers : {load : Load} {asked : Query} {tuples : List (List ℕ)} → AreInput ontology facts query load asked
-      → is_served load ≡ true → IsReply load.axioms load.facts load.nothing asked limit (found tuples)
+      → IsAnswered load asked → IsReply load.axioms load.facts load.nothing asked limit (found tuples)
       → AnswerPrints ontology facts query limit status.Done
       (facts_line (length load.facts) load.skipped ++ answers_text load.names tuples)
 

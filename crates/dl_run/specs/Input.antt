@@ -1,8 +1,7 @@
 -- What the files of the command `answer` give: the names, the load and the query.
 use Rattle.std.specs.Prelude.{◌≡◌, ℕ, ◌<◌, ◌≤◌, false, List, [], ◌++◌, length, map, slice_get, slice_index, Option, Some, None}
-use Rattle.std.specs.Ordering.{nat_cmp}
 use Rattle.dl_io.specs.Files.{max_bytes}
-use Rattle.dl_names.specs.NameList.{Text, has_name, max_names}
+use Rattle.dl_names.specs.NameList.{Text, has_name}
 use Rattle.dl_names.specs.Frozen.{IsFrozen}
 use Rattle.dl_names.specs.Iris.{owl_nothing}
 use Rattle.dl_terms.specs.Order.{axiom_cmp, fact_cmp}
@@ -10,23 +9,24 @@ use Rattle.dl_terms.specs.Sets.{IsSetOf}
 use Rattle.dl_terms.specs.Renamed.{renamed_axiom, renamed_fact, renamed_query}
 use Rattle.dl_terms.specs.declared.axiom.Axiom.{Axiom}
 use Rattle.dl_terms.specs.declared.axiom.Fact.{Fact}
+use Rattle.dl_terms.specs.declared.axiom.Signature.{Signature}
 use Rattle.dl_terms.specs.declared.query.Query.{Query}
 use Rattle.dl_owl.specs.declared.document.Document.{Document}
 use Rattle.dl_owl.specs.Expected.{prologue}
 use Rattle.dl_owl.specs.Reading.{ReadsValue}
 use Rattle.dl_triples.specs.Reading.{IsValue}
+use Rattle.dl_query.specs.Queries.{IsValue as IsQueryValue}
 use Rattle.dl_run.specs.declared.stop.InputFile.{InputFile}
 use Rattle.dl_run.specs.declared.stop.InputFile.TheVariants as file
-use Rattle.dl_run.specs.Queries.{IsQuery}
+use Rattle.dl_run.specs.Signature.{IsSignatureOf}
 
--- the names in byte order, the sets of axioms and facts over their numbers and of the classes and roles that are
--- declared, how many triples were skipped, and the number of owl:Nothing, where it is a name
+-- the names in byte order, the sets of axioms and facts over their numbers, their signature, how many triples were
+-- skipped, and the number of owl:Nothing, where it is a name
 pub record Load : Type 0 where
   pub names : List Text
   pub axioms : List Axiom
   pub facts : List Fact
-  pub classes : List ℕ
-  pub roles : List ℕ
+  pub signature : Signature
   pub skipped : ℕ
   pub nothing : Option ℕ
 
@@ -66,14 +66,14 @@ pub record AreInput (ontology facts query : List ℕ) (load : Load) (asked : Que
   pub met_before : List Text
   pub met : List Text
   pub are_read : AreRead ontology facts query document triples load.skipped met_before
-  pub is_query : IsQuery query met_before query_read met
-  pub names_fit : length met ≤ max_names
+  pub is_query : IsQueryValue query met_before query_read met
   -- the number of a name is its rank
   pub ranks : List ℕ
   pub is_frozen : IsFrozen met load.names ranks
   pub is_axioms : IsSetOf axiom_cmp load.axioms (map (renamed_axiom (slice_index ranks)) document.axioms)
   pub is_facts : IsSetOf fact_cmp load.facts (map (renamed_fact (slice_index ranks)) (triples ++ document.facts))
-  pub is_classes : IsSetOf nat_cmp load.classes (map (slice_index ranks) document.classes)
-  pub is_roles : IsSetOf nat_cmp load.roles (map (slice_index ranks) document.roles)
+  pub is_signature :
+      IsSignatureOf load.axioms load.facts (map (slice_index ranks) document.classes)
+      (map (slice_index ranks) document.roles) load.signature
   pub is_asked : asked ≡ renamed_query (slice_index ranks) query_read
   pub is_nothing : IsNumberOf load.names owl_nothing load.nothing

@@ -2,14 +2,10 @@ pub mod Words
 pub mod Refusals
 pub mod Texts
 pub mod Pieces
-pub mod Tokens
-pub mod Inclusions
-pub mod Members
-pub mod Marking
-pub mod Queries
-pub mod Reading
+pub mod Signature
 pub mod Input
 pub mod Served
+pub mod Positive
 pub mod Wrong
 pub mod Files
 pub mod Output
@@ -21,4 +17,3 @@ pub mod Forms
 pub mod Stops
 pub mod Asked
 pub mod Codes
-pub mod Signature

@@ -1,5 +1,5 @@
--- The pieces in which a refusal is printed.
-use Rattle.std.specs.Prelude.{ℕ, List, [], ◌++◌, Option, Some, None}
+-- The pieces in which refusals and answers are printed.
+use Rattle.std.specs.Prelude.{ℕ, zero, suc, List, [], ◌++◌, codes, Option, Some, None}
 use Rattle.std.specs.Fmt.{decimal}
 use Rattle.dl_run.specs.declared.refusals.Words.{Words}
 
@@ -10,4 +10,13 @@ digits_of None = []
 
 -- the words, one piece after another
 abbrev pub text_of_words : Words → List ℕ
-text_of_words words = words.before.now ++ (digits_of words.number ++ (words.between.now ++ words.behind.now))
+text_of_words words =
+    words.before.now
+    ++ (digits_of words.number
+    ++ (words.between.now
+    ++ (digits_of words.second ++ (words.behind.now ++ (digits_of words.third ++ words.last.now)))))
+
+-- what stands before a name of a tuple
+abbrev pub separator : ℕ → List ℕ
+separator zero = []
+separator (suc column) = codes ", "

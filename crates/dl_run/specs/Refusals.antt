@@ -5,7 +5,7 @@ use Rattle.dl_owl.specs.Causes.{construct_words}
 use Rattle.dl_run.specs.declared.stop.InputFile.{InputFile}
 use Rattle.dl_run.specs.declared.stop.InputFile.TheVariants as file
 use Rattle.dl_run.specs.declared.stop.Refusal.{Refusal}
-use Rattle.dl_run.specs.declared.stop.Refusal.TheVariants.{TooLong, OntologySyntax, TooDeep, PrefixUnknown, NotQl, LeftOut, OntologyReserved, NoTriple, BlankNode, DataReserved, TooManyNames, NotBuilt, TooMany}
+use Rattle.dl_run.specs.declared.stop.Refusal.TheVariants.{TooLong, OntologySyntax, TooDeep, PrefixUnknown, NotQl, LeftOut, OntologyReserved, NoTriple, BlankNode, DataReserved, QuerySyntax, QueryReserved, Unsafe, TooLarge, TooManyNames, NotBuilt, TooHeavy, TooManyPredicates, TooMany}
 use Rattle.dl_run.specs.Texts.{line}
 
 abbrev pub file_word : InputFile → List ℕ
@@ -13,7 +13,7 @@ file_word file.Ontology = codes "ontology"
 file_word file.Data = codes "data"
 file_word file.Query = codes "query"
 
--- what is refused, in words. Bytes are counted from 0 and lines from 1
+-- what is refused, in words. Bytes are counted from 0, lines and places from 1
 abbrev pub refusal_words : Refusal → List ℕ
 refusal_words (TooLong which) = file_word which ++ codes " longer than 268435456 bytes"
 refusal_words (OntologySyntax at) = codes "ontology byte " ++ (decimal at ++ codes ": syntax")
@@ -27,8 +27,18 @@ refusal_words (OntologyReserved at) = codes "ontology byte " ++ (decimal at ++ c
 refusal_words (NoTriple n) = codes "data line " ++ (decimal n ++ codes ": not a triple")
 refusal_words (BlankNode n) = codes "data line " ++ (decimal n ++ codes ": blank node")
 refusal_words (DataReserved n) = codes "data line " ++ (decimal n ++ codes ": reserved name")
+refusal_words (QuerySyntax at) = codes "query byte " ++ (decimal at ++ codes ": syntax")
+refusal_words (QueryReserved at) = codes "query byte " ++ (decimal at ++ codes ": reserved name")
+refusal_words (Unsafe place) = codes "query head place " ++ (decimal place ++ codes " not in the body")
+refusal_words (TooLarge atoms existential head) =
+    codes "query has "
+    ++ (decimal atoms
+    ++ (codes " atoms, "
+    ++ (decimal existential ++ (codes " existential variables, " ++ (decimal head ++ codes " head places")))))
 refusal_words TooManyNames = codes "more than 4000000 names"
 refusal_words NotBuilt = codes "not built"
+refusal_words (TooHeavy weight) = codes "axiom weight " ++ (decimal weight ++ codes " over 65536")
+refusal_words (TooManyPredicates count) = decimal count ++ codes " predicates over 4096"
 refusal_words (TooMany limit) = codes "more than " ++ (decimal limit ++ codes " answers")
 
 -- the line that says so

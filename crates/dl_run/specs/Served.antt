@@ -1,33 +1,32 @@
--- The loads that are answered so far: ontologies of classes alone, without owl:Nothing.
-use Rattle.std.specs.Prelude.{ℕ, Bool, true, false, ◌&&◌, Option, Some, None}
-use Rattle.std.specs.List.{list_all}
-use Rattle.dl_terms.specs.declared.role.Basic.{Basic}
-use Rattle.dl_terms.specs.declared.role.Basic.TheVariants as basic
-use Rattle.dl_terms.specs.declared.axiom.Part.{Part}
-use Rattle.dl_terms.specs.declared.axiom.Part.TheVariants as part
-use Rattle.dl_terms.specs.declared.axiom.Axiom.{Axiom}
-use Rattle.dl_terms.specs.declared.axiom.Axiom.TheVariants.{SubClass, EquivalentClasses}
+-- The loads and queries that are answered so far, and the limits of a load. The limits are this project's own.
+use Rattle.std.specs.Prelude.{◌≡◌, ℕ, ◌+◌, ◌-◌, ◌^◌, ◌≤◌, min, length}
+use Rattle.dl_terms.specs.declared.query.Query.{Query}
+use Rattle.dl_normal.specs.Filled.{HasDistinct, filled_pairs}
+use Rattle.dl_normal.specs.Weight.{total_weight}
+use Rattle.dl_hier.specs.Predicates.{max_predicates}
+use Rattle.dl_answer.specs.Replies.{max_weight, IsServed}
 use Rattle.dl_run.specs.Input.{Load}
 
-abbrev pub is_class : Basic → Bool
-is_class (basic.Class c) = true
-is_class _ = false
+-- how many predicates a load has: the classes and object properties of its signature, and a filler for each pair of
+-- role and class in "some role in class"
+pub record HasPredicateCount (load : Load) (count : ℕ) : Type 0 where
+  pub fillers : ℕ
+  pub distinct : HasDistinct (filled_pairs load.axioms) fillers
+  pub is : count ≡ length load.signature.classes + length load.signature.roles + fillers
 
-abbrev pub is_thing_or_class : Part → Bool
-is_thing_or_class part.Thing = true
-is_thing_or_class (part.Class c) = true
-is_thing_or_class _ = false
+-- a load within its limits
+pub record IsWithinLimits (load : Load) : Type 0 where
+  pub weight : total_weight load.axioms ≤ max_weight
+  pub predicates : ℕ
+  pub counted : HasPredicateCount load predicates
+  pub few : predicates ≤ max_predicates
 
--- that a class is in owl:Thing and in classes, or that classes are equivalent
-abbrev pub is_of_classes : Axiom → Bool
-is_of_classes (SubClass (basic.Class sub) parts) = list_all is_thing_or_class parts
-is_of_classes (EquivalentClasses basics) = list_all is_class basics
-is_of_classes _ = false
+-- what is answered so far: the query has no existential variable, the normal form of the axioms no negative, and
+-- owl:Nothing is no name; and the load is within its limits
+pub record IsAnswered (load : Load) (asked : Query) : Type 0 where
+  pub served : IsServed load.axioms asked load.nothing
+  pub limits : IsWithinLimits load
 
-abbrev pub is_no_number : Option ℕ → Bool
-is_no_number None = true
-is_no_number (Some n) = false
-
--- each axiom is one of classes, and owl:Nothing is no name
-abbrev pub is_served : Load → Bool
-is_served load = is_no_number load.nothing && list_all is_of_classes load.axioms
+-- a count as it is told: 2^64 - 1 where it is more
+abbrev pub told : ℕ → ℕ
+told count = min count (2 ^ 64 - 1)

@@ -1,12 +1,12 @@
 -- What a fault of a file means for the command.
 use Rattle.dl_io.specs.declared.whole.FileFault.{FileFault}
 use Rattle.dl_io.specs.declared.whole.FileFault.TheVariants as file
-use Rattle.dl_names.specs.declared.fault.NameFault.{NameFault}
-use Rattle.dl_names.specs.declared.fault.NameFault.TheVariants as names
 use Rattle.dl_owl.specs.declared.fault.OwlFault.{OwlFault}
 use Rattle.dl_owl.specs.declared.fault.OwlFault.TheVariants as owl
 use Rattle.dl_triples.specs.declared.fault.TripleFault.{TripleFault}
 use Rattle.dl_triples.specs.declared.fault.TripleFault.TheVariants as triples
+use Rattle.dl_query.specs.declared.fault.QueryFault.{QueryFault}
+use Rattle.dl_query.specs.declared.fault.QueryFault.TheVariants as query
 use Rattle.dl_run.specs.declared.stop.InputFile.{InputFile}
 use Rattle.dl_run.specs.declared.stop.Refusal.TheVariants as refusal
 use Rattle.dl_run.specs.declared.stop.Stop.{Stop}
@@ -29,9 +29,13 @@ stop_of_data (triples.Reserved n) = Refused (refusal.DataReserved n)
 stop_of_data (triples.TooManyNames n) = Refused refusal.TooManyNames
 stop_of_data triples.NoMemory = NoMemory
 
-abbrev pub stop_of_names : NameFault → Stop
-stop_of_names names.Full = Refused refusal.TooManyNames
-stop_of_names names.NoMemory = NoMemory
+abbrev pub stop_of_query : QueryFault → Stop
+stop_of_query (query.Syntax at) = Refused (refusal.QuerySyntax at)
+stop_of_query (query.Reserved at) = Refused (refusal.QueryReserved at)
+stop_of_query (query.TooManyNames at) = Refused refusal.TooManyNames
+stop_of_query (query.Unsafe place) = Refused (refusal.Unsafe place)
+stop_of_query (query.TooLarge atoms existential head) = Refused (refusal.TooLarge atoms existential head)
+stop_of_query query.NoMemory = NoMemory
 
 abbrev pub stop_of_file : InputFile → FileFault → Stop
 stop_of_file which file.Failed = ReadFault

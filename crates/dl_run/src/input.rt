@@ -1,19 +1,21 @@
 // What the three files of `answer` give.
 ghost use Rattle.std.specs.Prelude.{◌≡◌, ◌<◌, ◌++◌, length, IfOk};
 ghost use Rattle.std.specs.List.{All};
-ghost use Rattle.dl_terms.specs.Occurring.{axiom_names, fact_names};
-ghost use Rattle.dl_run.specs.Asked.{load_of, Gives, GivesPlace, IsNumbered};
+ghost use Rattle.dl_terms.specs.Fillers.{HasNoFiller};
+ghost use Rattle.dl_terms.specs.Occurring.{axiom_names, fact_names, query_names};
+ghost use Rattle.dl_terms.specs.Queries.{IsWellFormed};
+ghost use Rattle.dl_run.specs.Asked.{Gives, IsNumbered, IsMade};
 ghost use Rattle.dl_run.specs.Input.{AllFit};
-ghost use Rattle.dl_run.specs.Served.{is_served};
 
 use crate::answer::Asked;
-use crate::inclusions::are_of_classes;
-use crate::question::class_asked;
-use crate::sets::{axiom_set, fact_set, number_set};
-use crate::stop::{Refusal, Stop};
+use crate::limits::judge;
+use crate::sets::{axiom_set, fact_set};
+use crate::signature::signature_of;
+use crate::stop::Stop;
 use dl_names::NameSet;
 use dl_owl::{Document, read_ontology};
-use dl_terms::{Fact, List, NoMemory};
+use dl_query::{ranked, read_query};
+use dl_terms::{Fact, List, NoMemory, Query};
 use dl_triples::{Triples, read_triples};
 use std::alloc::Global;
 
@@ -21,7 +23,7 @@ use std::alloc::Global;
 const OWL_NOTHING: &str = "http://www.w3.org/2002/07/owl#Nothing";
 
 /// What the bytes of the three files ask, or the first thing that is wrong with them. Ontology, data and query are
-/// read in this order, and then it is tested whether the load is one that is answered so far.
+/// read in this order, and then it is tested whether the load and the query are answered so far.
 pub(crate) fn input_of(
     alloc: Global,
     ontology: &[u8],
@@ -34,23 +36,10 @@ pub(crate) fn input_of(
     let mut names = NameSet::new(alloc);
     let document = read_ontology(alloc, ontology, &mut names)?;
     let triples = read_triples(alloc, facts, &mut names)?;
-    let class = place_asked(query, &mut names)?;
-    let asked = numbered(names, document, triples, class)?;
-    if !is_served(&asked) {
-        return Err(Stop::Refused(Refusal::NotBuilt));
-    }
+    let read = read_query(alloc, query, &mut names)?;
+    let asked = numbered(names, document, triples, read)?;
+    judge(alloc, &asked)?;
     Ok(asked)
-}
-
-/// The place of the class whose members a query asks for.
-fn place_asked(query: &[u8], names: &mut NameSet) -> Result<u32, Stop>
-    ensures { GivesPlace query.now names.old names.new result }
-{
-    let Some(class) = class_asked(query) else {
-        return Err(Stop::Refused(Refusal::NotBuilt));
-    };
-    let place = names.add(class)?;
-    Ok(place)
 }
 
 /// What was read by places, by the numbers of names.
@@ -58,9 +47,11 @@ fn numbered(
     names: NameSet,
     document: Document,
     triples: Triples,
-    class: u32,
+    query: Query,
 ) -> Result<Asked, NoMemory>
-    requires class_placed { class < length names }
+    requires no_fillers { All HasNoFiller document.axioms }
+    requires well_formed { IsWellFormed query }
+    requires query_placed { All (λ place. place < length names) (query_names query) }
     requires axioms_placed { All (λ stated.
         All (λ place. place < length names) (axiom_names stated)) document.axioms }
     requires facts_placed { All (λ fact.
@@ -69,26 +60,31 @@ fn numbered(
     requires roles_placed { All (λ place. place < length names) document.roles }
     requires triples_placed { All (λ fact.
         All (λ place. place < length names) (fact_names fact)) triples.facts }
-    ensures { IfOk result (λ asked. IsNumbered names document triples class asked) }
+    ensures numbered { IfOk result (λ asked. IsNumbered names document triples query asked) }
+    ensures made { IfOk result IsMade }
 {
     let (names, ranks) = names.freeze()?;
     let mut document = document;
     document.ranked(&ranks);
     let mut triples = triples;
     triples.ranked(&ranks);
+    let mut query = query;
+    ranked(&mut query, &ranks);
     let Document {
         axioms,
         facts,
         classes,
         roles,
     } = document;
-    let facts = joined(triples.facts, &facts)?;
+    let axioms = axiom_set(axioms);
+    let both = joined(triples.facts, &facts)?;
+    let facts = fact_set(both);
+    let signature = signature_of(axioms.as_slice(), facts.as_slice(), classes, roles)?;
     Ok(Asked {
-        class: ranks.of(class),
-        axioms: axiom_set(axioms),
-        facts: fact_set(facts),
-        classes: number_set(classes),
-        roles: number_set(roles),
+        axioms,
+        facts,
+        signature,
+        query,
         skipped: triples.skipped,
         nothing: names.number(OWL_NOTHING),
         names,
@@ -104,11 +100,4 @@ fn joined(facts: List<Fact>, others: &List<Fact>) -> Result<List<Fact>, NoMemory
         both.push(*fact)?;
     }
     Ok(both)
-}
-
-/// Whether the load is answered so far: its axioms are of classes alone, and `owl:Nothing` is no name.
-fn is_served(asked: &Asked) -> bool
-    ensures { result ≡ is_served (load_of asked.now) }
-{
-    asked.nothing.is_none() && are_of_classes(asked.axioms.as_slice())
 }

@@ -2,17 +2,13 @@
 #![tactic(auto)]
 
 mod answer;
-mod chain;
 mod command;
-mod inclusions;
 mod input;
 mod laws;
-mod members;
+mod limits;
 mod output;
-mod question;
 mod refusals;
 mod replies;
-mod scan;
 mod sets;
 mod signature;
 mod status;

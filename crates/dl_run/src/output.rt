@@ -1,12 +1,11 @@
 // What is printed, piece by piece, through a sink that gathers the pieces. It takes no memory.
-ghost use Rattle.std.specs.Prelude.{◌≡◌, ◌≤◌, ◌<◌, ◌∷◌, [], length, OnOk, OnErr};
+ghost use Rattle.std.specs.Prelude.{◌≡◌, ◌≤◌, ◌<◌, [], length, map, slice_index_or, OnOk, OnErr};
 ghost use Rattle.std.specs.List.{All, flat_map};
 ghost use Rattle.dl_io.specs.Count.{HasRisen};
 ghost use Rattle.dl_io.specs.Gathering.{Takes, TakesPrefix, state_of};
 ghost use Rattle.dl_run.specs.Answered.{text_of, text_of_answers};
-ghost use Rattle.dl_run.specs.Members.{singles};
-ghost use Rattle.dl_run.specs.Output.{tuple_line};
-ghost use Rattle.dl_run.specs.Pieces.{digits_of};
+ghost use Rattle.dl_run.specs.Output.{iri_of, joined_texts, tuple_line};
+ghost use Rattle.dl_run.specs.Pieces.{digits_of, separator};
 ghost use Rattle.dl_run.specs.Refusals.{refusal_text};
 
 use crate::answer::Answers;
@@ -15,6 +14,7 @@ use crate::stop::{Refusal, Stop};
 use crate::texts::{NO_MEMORY, READ_FAULT};
 use dl_io::{Failed, GatheringSink, Sink};
 use dl_names::Names;
+use dl_terms::Tuples;
 use itoa::Buffer;
 
 /// Prints answers, or what stands in their place, and hands all of it on.
@@ -70,8 +70,10 @@ fn put_refusal<S: Sink>(out: &mut GatheringSink<'_, S>, refusal: Refusal) -> Res
         (HasRisen (S.faults out.old.sink.now) (S.faults out.new.sink.now)) }
 {
     let words = words_of(refusal);
-    let mut buffer = Buffer::new();
-    let number = digits_of(&mut buffer, words.number);
+    let (mut number, mut second, mut third) = (Buffer::new(), Buffer::new(), Buffer::new());
+    let number = digits_of(&mut number, words.number);
+    let second = digits_of(&mut second, words.second);
+    let third = digits_of(&mut third, words.third);
     put_all(
         out,
         &[
@@ -79,7 +81,10 @@ fn put_refusal<S: Sink>(out: &mut GatheringSink<'_, S>, refusal: Refusal) -> Res
             words.before,
             number,
             words.between,
+            second,
             words.behind,
+            third,
+            words.last,
             "\n",
         ],
     )
@@ -110,7 +115,7 @@ fn put_answers<S: Sink>(out: &mut GatheringSink<'_, S>, answers: &Answers) -> Re
     let (mut facts, mut skipped, mut count) = (Buffer::new(), Buffer::new(), Buffer::new());
     let facts = facts.format(answers.facts as u64);
     let skipped = skipped.format(answers.skipped);
-    let count = count.format(answers.found.len() as u64);
+    let count = count.format(answers.found.len());
     put_all(
         out,
         &[
@@ -123,29 +128,91 @@ fn put_answers<S: Sink>(out: &mut GatheringSink<'_, S>, answers: &Answers) -> Re
             "\n",
         ],
     )?;
-    put_lines(out, &answers.names, answers.found.as_slice())
+    put_lines(out, &answers.names, &answers.found)
 }
 
 /// Prints a line for each answer.
 fn put_lines<S: Sink>(
     out: &mut GatheringSink<'_, S>,
     names: &Names,
-    answers: &[u32],
+    answers: &Tuples,
 ) -> Result<(), Failed>
-    requires { All (λ n. n < length names.now) answers.now }
+    requires { All (λ tuple. All (λ n. n < length names.now) tuple) answers.now.tuples }
     ensures same_reference { out.new.sink.ghost_name ≡ out.old.sink.ghost_name }
     ensures all { OnOk result (Takes (state_of S.got out.old) (state_of S.got out.new)
-        (flat_map (tuple_line names.now) (singles answers.now))) }
+        (flat_map (tuple_line names.now) answers.now.tuples)) }
     ensures prefix { OnErr result (TakesPrefix (state_of S.got out.old) (state_of S.got out.new)
-        (flat_map (tuple_line names.now) (singles answers.now))) }
+        (flat_map (tuple_line names.now) answers.now.tuples)) }
     ensures count { S.faults out.old.sink.now ≤ S.faults out.new.sink.now }
     ensures failed { OnErr result
         (HasRisen (S.faults out.old.sink.now) (S.faults out.new.sink.now)) }
 {
-    for name in answers {
-        put_all(out, &["(<", names.text(*name), ">)\n"])?;
+    for row in 0..answers.len() {
+        put_line(out, names, answers, row)?;
     }
     Ok(())
+}
+
+/// Prints the line of an answer.
+fn put_line<S: Sink>(
+    out: &mut GatheringSink<'_, S>,
+    names: &Names,
+    answers: &Tuples,
+    row: u64,
+) -> Result<(), Failed>
+    requires row { row < length answers.now.tuples }
+    requires named { All (λ n. n < length names.now) (slice_index_or answers.now.tuples row []) }
+    ensures same_reference { out.new.sink.ghost_name ≡ out.old.sink.ghost_name }
+    ensures all { OnOk result (Takes (state_of S.got out.old) (state_of S.got out.new)
+        (tuple_line names.now (slice_index_or answers.now.tuples row []))) }
+    ensures prefix { OnErr result (TakesPrefix (state_of S.got out.old) (state_of S.got out.new)
+        (tuple_line names.now (slice_index_or answers.now.tuples row []))) }
+    ensures count { S.faults out.old.sink.now ≤ S.faults out.new.sink.now }
+    ensures failed { OnErr result
+        (HasRisen (S.faults out.old.sink.now) (S.faults out.new.sink.now)) }
+{
+    put_all(out, &["("])?;
+    put_names(out, names, answers, row)?;
+    put_all(out, &[")\n"])
+}
+
+/// Prints the names of an answer, with a comma and a space between them.
+fn put_names<S: Sink>(
+    out: &mut GatheringSink<'_, S>,
+    names: &Names,
+    answers: &Tuples,
+    row: u64,
+) -> Result<(), Failed>
+    requires row { row < length answers.now.tuples }
+    requires named { All (λ n. n < length names.now) (slice_index_or answers.now.tuples row []) }
+    ensures same_reference { out.new.sink.ghost_name ≡ out.old.sink.ghost_name }
+    ensures all { OnOk result (Takes (state_of S.got out.old) (state_of S.got out.new)
+        (joined_texts (map (iri_of names.now) (slice_index_or answers.now.tuples row [])))) }
+    ensures prefix { OnErr result (TakesPrefix (state_of S.got out.old) (state_of S.got out.new)
+        (joined_texts (map (iri_of names.now) (slice_index_or answers.now.tuples row [])))) }
+    ensures count { S.faults out.old.sink.now ≤ S.faults out.new.sink.now }
+    ensures failed { OnErr result
+        (HasRisen (S.faults out.old.sink.now) (S.faults out.new.sink.now)) }
+{
+    for column in 0..answers.width() {
+        put_all(
+            out,
+            &[
+                separator(column),
+                "<",
+                names.text(answers.name(row, column)),
+                ">",
+            ],
+        )?;
+    }
+    Ok(())
+}
+
+/// What stands before a name of an answer.
+fn separator<'a>(column: u32) -> &'a str
+    ensures { result.now ≡ separator column }
+{
+    if column == 0 { "" } else { ", " }
 }
 
 /// Prints pieces one after another.

@@ -3,19 +3,21 @@ ghost use Rattle.std.specs.Prelude.{◌≡◌, ◌++◌, codes};
 ghost use Rattle.std.specs.Fmt.{decimal};
 ghost use Rattle.dl_owl.specs.Causes.{construct_words};
 ghost use Rattle.dl_run.specs.Refusals.{file_word, refusal_words};
-ghost use Rattle.dl_run.specs.Pieces.{text_of_words};
+ghost use Rattle.dl_run.specs.Pieces.{digits_of, text_of_words};
 
 use crate::stop::{InputFile, Refusal};
 use dl_owl::Construct;
 
-/// A refusal in words: what stands before its number, the number, where it has one, and what stands behind that, in two
-/// parts.
+/// A refusal in words: its numbers, where it has them, and what stands before, between and behind them.
 #[derive(Clone, Copy)]
 pub(crate) struct Words {
     pub before: &'static str,
     pub number: Option<u64>,
     pub between: &'static str,
+    pub second: Option<u64>,
     pub behind: &'static str,
+    pub third: Option<u64>,
+    pub last: &'static str,
 }
 
 /// The words of a refusal.
@@ -33,14 +35,19 @@ pub(crate) fn words_of(refusal: Refusal) -> Words
         Refusal::NoTriple { line } => in_data(line, ": not a triple"),
         Refusal::BlankNode { line } => in_data(line, ": blank node"),
         Refusal::DataReserved { line } => in_data(line, ": reserved name"),
+        Refusal::QuerySyntax { at } => in_query(at, ": syntax"),
+        Refusal::QueryReserved { at } => in_query(at, ": reserved name"),
+        Refusal::Unsafe { place } => counted("query head place ", place, " not in the body"),
+        Refusal::TooLarge {
+            atoms,
+            existential,
+            head,
+        } => too_large(atoms, existential, head),
         Refusal::TooManyNames => plain("more than 4000000 names", ""),
         Refusal::NotBuilt => plain("not built", ""),
-        Refusal::TooMany { limit } => Words {
-            before: "more than ",
-            number: Some(limit),
-            between: "",
-            behind: " answers",
-        },
+        Refusal::TooHeavy { weight } => counted("axiom weight ", weight, " over 65536"),
+        Refusal::TooManyPredicates { count } => counted("", count, " predicates over 4096"),
+        Refusal::TooMany { limit } => counted("more than ", limit, " answers"),
     }
 }
 
@@ -54,28 +61,45 @@ fn file_word(file: InputFile) -> &'static str
     }
 }
 
+/// Words with one number at most, in one piece before it and two behind it.
+fn pieces(
+    before: &'static str,
+    number: Option<u64>,
+    between: &'static str,
+    behind: &'static str,
+) -> Words
+    ensures { text_of_words result ≡ before.now ++ (digits_of number ++ (between.now ++ behind.now)) }
+{
+    Words {
+        before,
+        number,
+        between,
+        second: None,
+        behind,
+        third: None,
+        last: "",
+    }
+}
+
 /// Words without a number.
 fn plain(before: &'static str, behind: &'static str) -> Words
     ensures { text_of_words result ≡ before.now ++ behind.now }
 {
-    Words {
-        before,
-        number: None,
-        between: "",
-        behind,
-    }
+    pieces(before, None, "", behind)
+}
+
+/// Words around a number.
+fn counted(before: &'static str, number: u64, behind: &'static str) -> Words
+    ensures { text_of_words result ≡ before.now ++ (decimal number ++ behind.now) }
+{
+    pieces(before, Some(number), "", behind)
 }
 
 /// The words of a fault at a byte of the ontology.
 fn in_ontology(at: usize, behind: &'static str) -> Words
     ensures { text_of_words result ≡ codes "ontology byte " ++ (decimal at ++ behind.now) }
 {
-    Words {
-        before: "ontology byte ",
-        number: Some(at as u64),
-        between: "",
-        behind,
-    }
+    counted("ontology byte ", at as u64, behind)
 }
 
 /// The words of a construct at a byte of the ontology, and why it is refused.
@@ -83,22 +107,34 @@ fn construct_words(at: usize, why: &'static str, what: Construct) -> Words
     ensures { text_of_words result ≡
         codes "ontology byte " ++ (decimal at ++ (why.now ++ construct_words what)) }
 {
-    Words {
-        before: "ontology byte ",
-        number: Some(at as u64),
-        between: why,
-        behind: what.text(),
-    }
+    pieces("ontology byte ", Some(at as u64), why, what.text())
 }
 
 /// The words of a fault in a line of the data.
 fn in_data(line: u64, behind: &'static str) -> Words
     ensures { text_of_words result ≡ codes "data line " ++ (decimal line ++ behind.now) }
 {
+    counted("data line ", line, behind)
+}
+
+/// The words of a fault at a byte of the query.
+fn in_query(at: usize, behind: &'static str) -> Words
+    ensures { text_of_words result ≡ codes "query byte " ++ (decimal at ++ behind.now) }
+{
+    counted("query byte ", at as u64, behind)
+}
+
+/// The words of a query that is too large.
+fn too_large(atoms: u64, existential: u64, head: u64) -> Words
+    ensures { text_of_words result ≡ refusal_words (Refusal.TooLarge atoms existential head) }
+{
     Words {
-        before: "data line ",
-        number: Some(line),
-        between: "",
-        behind,
+        before: "query has ",
+        number: Some(atoms),
+        between: " atoms, ",
+        second: Some(existential),
+        behind: " existential variables, ",
+        third: Some(head),
+        last: " head places",
     }
 }

@@ -100,7 +100,11 @@ fn push_basic_and_parts(
     push_parts(signature, parts)
 }
 
-fn push_role_and_parts(signature: &mut Signature, role: Role, parts: &[Part]) -> Result<(), NoMemory>
+fn push_role_and_parts(
+    signature: &mut Signature,
+    role: Role,
+    parts: &[Part],
+) -> Result<(), NoMemory>
     ensures classes { OnOk result (signature.new.classes ≡
         signature.old.classes ++ flat_map part_classes parts.now) }
     ensures roles { OnOk result (signature.new.roles ≡

@@ -1,10 +1,10 @@
 // Why a command ends before it has answers.
 ghost use Rattle.std.specs.Prelude.{◌≡◌};
-ghost use Rattle.dl_run.specs.Stops.{stop_of_ontology, stop_of_data, stop_of_names};
+ghost use Rattle.dl_run.specs.Stops.{stop_of_ontology, stop_of_data, stop_of_query};
 ghost use Rattle.dl_run.specs.declared.stop.Stop.TheVariants.{NoMemory};
 
-use dl_names::NameFault;
 use dl_owl::{Construct, OwlFault};
+use dl_query::QueryFault;
 use dl_triples::TripleFault;
 use std::alloc::AllocError;
 
@@ -16,35 +16,85 @@ pub(crate) enum InputFile {
     Query,
 }
 
-/// Why an input is refused. Bytes of the ontology are counted from 0, lines of the data from 1.
+/// Why an input is refused. Bytes are counted from 0, lines of the data and places of the head from 1.
 #[derive(Clone, Copy)]
 pub(crate) enum Refusal {
     /// A file is too long.
-    TooLong { file: InputFile },
+    TooLong {
+        file: InputFile,
+    },
     /// A byte of the ontology at which no token begins, or one that fits no rule of the grammar.
-    OntologySyntax { at: usize },
+    OntologySyntax {
+        at: usize,
+    },
     /// A parenthesis of the ontology inside as many open ones as there may be.
-    TooDeep { at: usize },
+    TooDeep {
+        at: usize,
+    },
     /// A name of the ontology whose prefix isn't declared.
-    PrefixUnknown { at: usize },
+    PrefixUnknown {
+        at: usize,
+    },
     /// A construct of the ontology that isn't in OWL 2 QL.
-    NotQl { at: usize, what: Construct },
+    NotQl {
+        at: usize,
+        what: Construct,
+    },
     /// A construct of the ontology that is left out.
-    LeftOut { at: usize, what: Construct },
+    LeftOut {
+        at: usize,
+        what: Construct,
+    },
     /// A reserved name in the ontology.
-    OntologyReserved { at: usize },
+    OntologyReserved {
+        at: usize,
+    },
     /// A line of the data that is no triple.
-    NoTriple { line: u64 },
+    NoTriple {
+        line: u64,
+    },
     /// A line of the data with a blank node.
-    BlankNode { line: u64 },
+    BlankNode {
+        line: u64,
+    },
     /// A line of the data with a reserved name.
-    DataReserved { line: u64 },
+    DataReserved {
+        line: u64,
+    },
+    /// A byte of the query at which no token begins, or one that fits no rule of the grammar.
+    QuerySyntax {
+        at: usize,
+    },
+    /// A reserved name in the query.
+    QueryReserved {
+        at: usize,
+    },
+    /// A place of the head of the query whose variable isn't in the body.
+    Unsafe {
+        place: u64,
+    },
+    /// A query over the limits of queries.
+    TooLarge {
+        atoms: u64,
+        existential: u64,
+        head: u64,
+    },
     /// A name that has no place any more.
     TooManyNames,
     /// The files give an input that isn't built yet.
     NotBuilt,
+    /// The weight of the axioms is over its limit.
+    TooHeavy {
+        weight: u64,
+    },
+    /// There are more predicates than the limit.
+    TooManyPredicates {
+        count: u64,
+    },
     /// There are more answers than the limit.
-    TooMany { limit: u64 },
+    TooMany {
+        limit: u64,
+    },
 }
 
 /// Why a command ends before it has answers.
@@ -89,14 +139,26 @@ impl From<TripleFault> for Stop {
     }
 }
 
-impl From<NameFault> for Stop {
-    ghost from_gives = { λ fault made. made ≡ stop_of_names fault };
+impl From<QueryFault> for Stop {
+    ghost from_gives = { λ fault made. made ≡ stop_of_query fault };
 
-    fn from(fault: NameFault) -> Stop {
-        match fault {
-            NameFault::Full => Stop::Refused(Refusal::TooManyNames),
-            NameFault::NoMemory => Stop::NoMemory,
-        }
+    fn from(fault: QueryFault) -> Stop {
+        Stop::Refused(match fault {
+            QueryFault::Syntax { at } => Refusal::QuerySyntax { at },
+            QueryFault::Reserved { at } => Refusal::QueryReserved { at },
+            QueryFault::TooManyNames { .. } => Refusal::TooManyNames,
+            QueryFault::Unsafe { place } => Refusal::Unsafe { place },
+            QueryFault::TooLarge {
+                atoms,
+                existential,
+                head,
+            } => Refusal::TooLarge {
+                atoms,
+                existential,
+                head,
+            },
+            QueryFault::NoMemory => return Stop::NoMemory,
+        })
     }
 }
 

@@ -1,6 +1,6 @@
 use Rattle.std.proofs.Common.{refl, lit<}
 use Rattle.std.proofs.lemmas.Result.{err_from_is_err_and}
-use Rattle.dl_run.specs.Asked.{load_of, query_of}
+use Rattle.dl_run.specs.Asked.{load_of}
 use Rattle.dl_run.specs.declared.stop.InputFile.TheVariants.{Ontology, Data, Query}
 use Rattle.dl_run.proofs.CommandLemmas.{says_file_stop, says_stop, says_no_memory, says_replies, long_ontology, long_data, long_query, risen_later}
 use Rattle.dl_run.proofs.command.answers_of.Goals as goal
@@ -66,8 +66,11 @@ returns-in_err-reserve-clause-says g c =
     let p = err_from_is_err_and c.from_residual-in_err-reserve.result c.from_residual-in_err-reserve.ensures.1 in
     says_no_memory w.ontology.now w.facts.now w.query.now w.limit (g.L.Library.told c.args.files.now) _ p.0 c.from_residual-in_err-reserve.result p.1 p.2
 
-pub answers_for-requires : goal.answers_for-requires
-answers_for-requires g c = c.in_ok-asked.ensures.1
+pub answers_for-requires-clause-answered : goal.answers_for-requires-clause-answered
+answers_for-requires-clause-answered g c = c.in_ok-asked.ensures.1
+
+pub answers_for-requires-clause-made : goal.answers_for-requires-clause-made
+answers_for-requires-clause-made g c = c.in_ok-asked.ensures.2
 
 pub returns-clause-says : goal.returns-clause-says
 returns-clause-says g c =
@@ -80,5 +83,5 @@ returns-clause-says g c =
     (rw (← c.as_slice.ensures.value) at one.whole)
     (rw (← c.as_slice-2.ensures.value) at (rw one.unchanged at two.whole))
     (rw (← c.as_slice-3.ensures.value) at (rw (two.unchanged, one.unchanged) at c.in_ok-query.ensures.whole))
-    (load_of asked) (query_of asked) c.in_ok-asked.ensures.0 c.in_ok-asked.ensures.1
+    (load_of asked) asked.query c.in_ok-asked.ensures.0 c.in_ok-asked.ensures.1
     c.answers_for.result c.answers_for.ensures

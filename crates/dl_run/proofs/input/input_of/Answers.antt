@@ -1,8 +1,9 @@
-use Rattle.std.proofs.Common.{sym, arith}
+use Rattle.std.proofs.Common.{arith}
 use Rattle.std.proofs.lemmas.Result.{err_from_is_err_and}
+use Rattle.dl_names.proofs.NameListLemmas.{length-Extends}
 use Rattle.dl_terms.specs.Occurring.{axiom_names, fact_names}
-use Rattle.dl_run.proofs.InputLemmas.{placed_later, numbers_later, data_grows, query_grows}
-use Rattle.dl_run.proofs.WrongLemmas.{ontology_stops, data_stops, query_stops, memory_stops, gives_asked, gives_not_built}
+use Rattle.dl_run.proofs.InputLemmas.{placed_later, numbers_later, data_grows}
+use Rattle.dl_run.proofs.WrongLemmas.{ontology_stops, data_stops, query_stops, memory_stops, gives_asked, gives_stop}
 use Rattle.dl_run.proofs.input.input_of.Goals as goal
 
 pub returns-in_err-document : goal.returns-in_err-document
@@ -17,50 +18,54 @@ returns-in_err-triples c =
     data_stops c.args.ontology.now c.args.facts.now c.args.query.now c.requires _ _ (rw c.new-names.ensures at c.in_ok-document.ensures.value)
     _ p.0 c.from_residual-in_err-triples.result p.1 p.2 c.in_err-triples.ensures.fault
 
-pub returns-in_err-class : goal.returns-in_err-class
-returns-in_err-class c =
-    let p = err_from_is_err_and c.from_residual-in_err-class.result c.from_residual-in_err-class.ensures.1 in
+pub returns-in_err-read : goal.returns-in_err-read
+returns-in_err-read c =
+    let p = err_from_is_err_and c.from_residual-in_err-read.result c.from_residual-in_err-read.ensures.1 in
     let value = rw c.new-names.ensures at c.in_ok-document.ensures.value in
     query_stops c.args.ontology.now c.args.facts.now c.args.query.now c.requires _ _ value _ _ _
     (record { fit = c.requires; first = _; is_ontology = value; is_data = c.in_ok-triples.ensures.value })
-    p.0 c.place_asked.new.names c.from_residual-in_err-class.result p.1 (rw p.2 c.in_err-class.ensures)
+    _ _ p.0 c.from_residual-in_err-read.result p.1 p.2 c.in_err-read.ensures.fault
 
 pub returns-in_err-asked : goal.returns-in_err-asked
 returns-in_err-asked c =
     let p = err_from_is_err_and c.from_residual-in_err-asked.result c.from_residual-in_err-asked.ensures.1 in
     memory_stops c.args.ontology.now c.args.facts.now c.args.query.now p.0 c.from_residual-in_err-asked.result p.1 p.2
 
-pub numbered-requires-clause-class_placed : goal.numbered-requires-clause-class_placed
-numbered-requires-clause-class_placed c = c.in_ok-class.ensures.2
+pub numbered-requires-clause-well_formed : goal.numbered-requires-clause-well_formed
+numbered-requires-clause-well_formed c = (c.in_ok-read.ensures.ok).well_formed
 
 pub numbered-requires-clause-axioms_placed : goal.numbered-requires-clause-axioms_placed
 numbered-requires-clause-axioms_placed c =
-    placed_later axiom_names _ _ _ (omega (arith, data_grows c.in_ok-triples.ensures.value, query_grows c.in_ok-class.ensures.0)) c.in_ok-document.ensures.axiom_places
+    placed_later axiom_names _ _ _ (omega (arith, data_grows c.in_ok-triples.ensures.value, length-Extends _ _ c.read_query.ensures.grows)) c.in_ok-document.ensures.axiom_places
 
 pub numbered-requires-clause-facts_placed : goal.numbered-requires-clause-facts_placed
 numbered-requires-clause-facts_placed c =
-    placed_later fact_names _ _ _ (omega (arith, data_grows c.in_ok-triples.ensures.value, query_grows c.in_ok-class.ensures.0)) c.in_ok-document.ensures.fact_places
+    placed_later fact_names _ _ _ (omega (arith, data_grows c.in_ok-triples.ensures.value, length-Extends _ _ c.read_query.ensures.grows)) c.in_ok-document.ensures.fact_places
 
 pub numbered-requires-clause-classes_placed : goal.numbered-requires-clause-classes_placed
 numbered-requires-clause-classes_placed c =
-    numbers_later _ _ _ (omega (arith, data_grows c.in_ok-triples.ensures.value, query_grows c.in_ok-class.ensures.0)) c.in_ok-document.ensures.class_places
+    numbers_later _ _ _ (omega (arith, data_grows c.in_ok-triples.ensures.value, length-Extends _ _ c.read_query.ensures.grows)) c.in_ok-document.ensures.class_places
 
 pub numbered-requires-clause-roles_placed : goal.numbered-requires-clause-roles_placed
 numbered-requires-clause-roles_placed c =
-    numbers_later _ _ _ (omega (arith, data_grows c.in_ok-triples.ensures.value, query_grows c.in_ok-class.ensures.0)) c.in_ok-document.ensures.role_places
+    numbers_later _ _ _ (omega (arith, data_grows c.in_ok-triples.ensures.value, length-Extends _ _ c.read_query.ensures.grows)) c.in_ok-document.ensures.role_places
 
 pub numbered-requires-clause-triples_placed : goal.numbered-requires-clause-triples_placed
 numbered-requires-clause-triples_placed c =
-    placed_later fact_names _ _ _ (query_grows c.in_ok-class.ensures.0) c.in_ok-triples.ensures.places
+    placed_later fact_names _ _ _ (length-Extends _ _ c.read_query.ensures.grows) c.in_ok-triples.ensures.places
 
-pub returns-then-not-is_served : goal.returns-then-not-is_served
-returns-then-not-is_served c =
-    gives_not_built c.args.ontology.now c.args.facts.now c.args.query.now c.in_ok-document.document c.in_ok-triples.triples _ _ c.in_ok-class.class c.in_ok-asked.asked
+pub returns-in_err-judge : goal.returns-in_err-judge
+returns-in_err-judge c =
+    let p = err_from_is_err_and c.from_residual-in_err-judge.result c.from_residual-in_err-judge.ensures.1 in
+    gives_stop c.args.ontology.now c.args.facts.now c.args.query.now c.in_ok-document.document c.in_ok-triples.triples _ _ c.in_ok-read.read c.in_ok-asked.asked
     (record { fit = c.requires; first = _; is_ontology = rw c.new-names.ensures at c.in_ok-document.ensures.value; is_data = c.in_ok-triples.ensures.value })
-    c.in_ok-class.ensures.0 c.in_ok-class.ensures.1 c.in_ok-asked.ensures (sym c.if-not-is_served.ensures)
+    c.in_ok-read.ensures.ok c.in_ok-asked.ensures.numbered p.0 c.from_residual-in_err-judge.result p.1 (rw p.2 c.in_err-judge.ensures)
+
+pub judge-requires : goal.judge-requires
+judge-requires c = (c.in_ok-asked.ensures.made).well_formed
 
 pub returns : goal.returns
 returns c =
-    gives_asked c.args.ontology.now c.args.facts.now c.args.query.now c.in_ok-document.document c.in_ok-triples.triples _ _ c.in_ok-class.class c.in_ok-asked.asked
+    gives_asked c.args.ontology.now c.args.facts.now c.args.query.now c.in_ok-document.document c.in_ok-triples.triples _ _ c.in_ok-read.read c.in_ok-asked.asked
     (record { fit = c.requires; first = _; is_ontology = rw c.new-names.ensures at c.in_ok-document.ensures.value; is_data = c.in_ok-triples.ensures.value })
-    c.in_ok-class.ensures.0 c.in_ok-class.ensures.1 c.in_ok-asked.ensures (sym c.if-not-is_served.ensures)
+    c.in_ok-read.ensures.ok c.in_ok-asked.ensures.numbered c.in_ok-judge.ensures c.in_ok-asked.ensures.made

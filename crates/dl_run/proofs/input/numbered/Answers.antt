@@ -1,7 +1,8 @@
-use Rattle.std.proofs.Common.{◌++◌, length, slice_index}
+use Rattle.std.proofs.Common.{◌++◌, length, map, slice_index}
 use Rattle.dl_names.specs.Iris.{owl_nothing}
-use Rattle.dl_names.proofs.FrozenLemmas.{rank-lt}
-use Rattle.dl_run.proofs.InputLemmas.{ranked_axioms, ranked_facts, joined_placed, set_of_joined, number_found}
+use Rattle.dl_run.proofs.InputLemmas.{ranked_facts, joined_placed, set_of_joined, number_found, signature_from}
+use Rattle.dl_run.proofs.NamedLemmas.{well_formed_renamed, plain_renamed}
+use Rattle.dl_run.proofs.SignatureLemmas.{has_names, has_predicates}
 use Rattle.dl_run.proofs.input.numbered.Goals as goal
 
 pub ranked-requires-clause-axioms : goal.ranked-requires-clause-axioms
@@ -19,31 +20,40 @@ ranked-requires-clause-roles c = let long = (c.in_ok-names.ensures).one_each in 
 pub ranked-requires-2 : goal.ranked-requires-2
 ranked-requires-2 c = let long = (c.in_ok-names.ensures).one_each in rw long c.requires.triples_placed
 
-pub of-requires : goal.of-requires
-of-requires c = let long = (c.in_ok-names.ensures).one_each in rw long c.requires.class_placed
+pub ranked-requires-3 : goal.ranked-requires-3
+ranked-requires-3 c = let long = (c.in_ok-names.ensures).one_each in rw long c.requires.query_placed
 
 pub invariant_of-result : goal.invariant_of-result
 invariant_of-result c =
     let frozen = c.in_ok-names.ensures in
     let to = slice_index c.in_ok-names.ranks in
     record {
-      class_named = rw c.of.ensures (rank-lt c.args.names c.in_ok-names.names c.in_ok-names.ranks frozen c.args.class c.requires.class_placed);
-      axioms_named = ranked_axioms c.args.names c.in_ok-names.names c.in_ok-names.ranks frozen c.args.document.axioms c.axiom_set.result
-          c.requires.axioms_placed (rw c.ranked.ensures.axioms at c.axiom_set.ensures);
-      facts_named = ranked_facts c.args.names c.in_ok-names.names c.in_ok-names.ranks frozen (c.args.triples.facts ++ c.args.document.facts) c.fact_set.result
+      facts_named = ranked_facts c.args.names c.in_ok-names.names c.in_ok-names.ranks frozen (c.args.triples.facts ++ c.args.document.facts) c.fact_set-facts.result
           (joined_placed (length c.args.names) c.args.triples.facts c.args.document.facts c.requires.triples_placed c.requires.facts_placed)
-          (set_of_joined to c.args.triples.facts c.args.document.facts _ _ c.in_ok-facts.facts c.fact_set.result c.ranked-2.ensures.facts c.ranked.ensures.facts c.in_ok-facts.ensures c.fact_set.ensures);
+          (set_of_joined to c.args.triples.facts c.args.document.facts _ _ _ c.fact_set-facts.result c.ranked-2.ensures.facts c.ranked.ensures.facts c.in_ok-both.ensures c.fact_set-facts.ensures);
     }
 
-pub returns : goal.returns
-returns c = record {
+pub returns-clause-numbered : goal.returns-clause-numbered
+returns-clause-numbered c = record {
   ranks = c.in_ok-names.ranks;
   is_frozen = c.in_ok-names.ensures;
-  is_axioms = rw c.ranked.ensures.axioms at c.axiom_set.ensures;
-  is_facts = set_of_joined (slice_index c.in_ok-names.ranks) c.args.triples.facts c.args.document.facts _ _ c.in_ok-facts.facts c.fact_set.result c.ranked-2.ensures.facts c.ranked.ensures.facts c.in_ok-facts.ensures c.fact_set.ensures;
-  is_classes = rw c.ranked.ensures.classes at c.number_set.ensures;
-  is_roles = rw c.ranked.ensures.roles at c.number_set-2.ensures;
-  is_class = c.of.ensures;
+  is_axioms = rw c.ranked.ensures.axioms at c.axiom_set-axioms.ensures;
+  is_facts = set_of_joined (slice_index c.in_ok-names.ranks) c.args.triples.facts c.args.document.facts _ _ c.in_ok-both.both c.fact_set-facts.result c.ranked-2.ensures.facts c.ranked.ensures.facts c.in_ok-both.ensures c.fact_set-facts.ensures;
+  is_signature = signature_from c.as_slice.ensures c.as_slice-2.ensures c.ranked.ensures.classes c.ranked.ensures.roles c.in_ok-signature.ensures;
+  is_query = c.ranked-3.ensures;
   is_skipped = c.ranked-2.ensures.skipped;
   is_nothing = number_found c.in_ok-names.names owl_nothing c.number.result c.number.ensures.some c.number.ensures.none;
 }
+
+pub returns-clause-made : goal.returns-clause-made
+returns-clause-made c =
+    let to = slice_index c.in_ok-names.ranks in
+    let axioms = c.axiom_set-axioms.result in
+    let facts = c.fact_set-facts.result in
+    let declared = signature_from c.as_slice.ensures c.as_slice-2.ensures c.ranked.ensures.classes c.ranked.ensures.roles c.in_ok-signature.ensures in
+    record {
+      no_fillers = plain_renamed to c.args.document.axioms axioms c.requires.no_fillers (rw c.ranked.ensures.axioms at c.axiom_set-axioms.ensures);
+      has_names = has_names axioms facts (map to c.args.document.classes) (map to c.args.document.roles) c.in_ok-signature.signature declared;
+      has_predicates = has_predicates axioms facts (map to c.args.document.classes) (map to c.args.document.roles) c.in_ok-signature.signature declared;
+      well_formed = rw c.ranked-3.ensures (well_formed_renamed to c.args.query c.requires.well_formed);
+    }

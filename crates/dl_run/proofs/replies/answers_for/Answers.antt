@@ -1,33 +1,23 @@
-use Rattle.std.proofs.Common.{◌≡◌, length, refl, arith, rules}
-use Rattle.dl_run.specs.Asked.{load_of, query_of}
-use Rattle.dl_run.proofs.AnswerLemmas.{of_classes, over_limit, within_limit}
-use Rattle.dl_run.proofs.MemberLemmas.{individuals_named}
+use Rattle.std.proofs.Common.{length, arith}
+use Rattle.dl_run.proofs.NamedLemmas.{reply_named, not_broken}
+use Rattle.dl_run.proofs.SignatureLemmas.{are_few}
 use Rattle.dl_run.proofs.replies.answers_for.Goals as goal
 
-pub members-requires-clause-served : goal.members-requires-clause-served
-members-requires-clause-served c = rw c.as_slice.ensures (of_classes (load_of c.args.asked) c.requires)
-
-pub returns-then-len-limit : goal.returns-then-len-limit
-returns-then-len-limit c =
-    let asked = c.args.asked in (
-      refl,
-      over_limit (load_of asked) c.requires (query_of asked) c.args.limit c.in_ok-found.found.items
-          (rw (c.as_slice.ensures, c.as_slice-2.ensures) at c.in_ok-found.ensures.certain) (omega arith),
-    )
+pub ask_facts-answer-requires-clause-few : goal.ask_facts-answer-requires-clause-few
+ask_facts-answer-requires-clause-few c =
+    let limits = c.requires.answered.limits in
+    rw c.as_slice.ensures
+    (are_few c.args.asked.axioms c.requires.made.no_fillers c.fillers_are_of_parts.ensures limits.counted.fillers limits.counted.distinct c.args.asked.signature
+    (omega (arith, limits.counted.is, limits.few)))
 
 pub invariant_of-result : goal.invariant_of-result
-invariant_of-result c = record {
-  found_named = individuals_named _ c.args.asked.facts c.in_ok-found.found.items c.args.asked.facts_named
-      (rw c.as_slice-2.ensures at c.in_ok-found.ensures.individuals);
-}
-
-pub returns : goal.returns
-returns c =
+invariant_of-result c =
     let asked = c.args.asked in
-    let count : c.len-3.result ≡ length asked.facts = search rules in (
-      within_limit (load_of asked) c.requires (query_of asked) c.args.limit c.in_ok-found.found.items
-          (rw (c.as_slice.ensures, c.as_slice-2.ensures) at c.in_ok-found.ensures.certain) (omega arith),
-      refl,
-      count,
-      refl,
-    )
+    record {
+      found_named = reply_named asked.axioms asked.facts (length asked.names) asked.facts_named asked.query c.requires.made.well_formed c.in-Ok-Found.tuples.tuples
+          (rw (c.as_slice.ensures, c.as_slice-2.ensures, c.in-Ok-Found.field-0-is) at c.in-Ok-Found.ensures.0);
+    }
+
+pub unreachable-requires : goal.unreachable-requires
+unreachable-requires c =
+    not_broken c.args.asked.query c.requires.answered.served (rw (c.as_slice.ensures, c.as_slice-2.ensures, c.in-Ok-Inconsistent.field-0-is) at c.in-Ok-Inconsistent.ensures.0)

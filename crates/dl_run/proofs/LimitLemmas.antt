@@ -1,0 +1,119 @@
+-- The limits of a load: what is wrong with it is one thing, and how much is told of what passes a limit.
+use Rattle.std.proofs.Common.{◌≡◌, ◌≢◌, ℕ, zero, suc, ◌+◌, ◌-◌, ◌^◌, ◌<◌, ◌≤◌, inl, inr, min, List, [], ◌∷◌, ◌++◌, length, AllPairs, Contains, refl, sym, ap, subst, arith, length-append}
+use Rattle.std.proofs.lemmas.List.Elements.{Contains-append_left, Contains-append_right, Contains-append_cases}
+use Rattle.dl_terms.specs.declared.query.Query.{Query}
+use Rattle.dl_terms.proofs.MemberLemmas.{Contains-first, Contains-later, Contains-cons, Contains-nil}
+use Rattle.dl_normal.specs.Filled.{HasDistinct, filled_pairs}
+use Rattle.dl_normal.specs.Weight.{total_weight}
+use Rattle.dl_answer.specs.Replies.{max_weight, IsServed}
+use Rattle.dl_run.specs.Input.{Load}
+use Rattle.dl_run.specs.Served.{HasPredicateCount, IsAnswered, told}
+use Rattle.dl_run.specs.Wrong.{IsLoadWrong}
+use Rattle.dl_run.specs.Wrong.IsLoadWrong.{not_built, too_heavy, too_many_predicates}
+use Rattle.dl_run.specs.declared.stop.Refusal.{Refusal}
+use Rattle.dl_run.specs.declared.stop.Refusal.TheVariants.{TooHeavy, TooManyPredicates}
+
+-- ---- as many different items
+
+-- what a list has stands between two parts of it
+record Stands {A : Type 0} (x : A) (xs : List A) : Type 0 where
+  before : List A
+  after : List A
+  is : xs ≡ before ++ x ∷ after
+
+stands : {A : Type 0} (x : A) (xs : List A) → Contains xs x → Stands x xs
+stands x [] c = absurd (Contains-nil x c)
+stands x (y ∷ ys) c =
+    elim (Contains-cons y x ys c) [
+      | inl same ↦ record { before = []; after = ys; is = ap (λ z. z ∷ ys) same }
+      | inr later ↦ let s = stands x ys later in record { before = y ∷ s.before; after = s.after; is = ap (λ l. y ∷ l) s.is }
+    ]
+
+-- another item is in one of the two parts
+other_stands : {A : Type 0} (x z : A) (xs ys : List A) → x ≢ z → Contains (xs ++ x ∷ ys) z → Contains (xs ++ ys) z
+other_stands x z xs ys apart c =
+    elim (Contains-append_cases xs (x ∷ ys) z c) [
+      | inl left ↦ Contains-append_left xs ys z left
+      | inr right ↦
+          elim (Contains-cons x z ys right) [
+            | inl same ↦ absurd (apart same)
+            | inr later ↦ Contains-append_right xs ys z later
+          ]
+    ]
+
+-- different items that all are in a list are no more than it has
+no_more : {A : Type 0} (xs ys : List A) → AllPairs (λ x y. x ≢ y) xs → ((x : A) → Contains xs x → Contains ys x) → length xs ≤ length ys
+no_more [] ys apart inside = omega arith
+no_more {A} (x ∷ xs) ys apart inside =
+    let s = stands x ys (inside x (Contains-first x xs)) in
+    let fewer =
+    no_more xs (s.before ++ s.after) (λ i j d lt within. apart (suc i) (suc j) d (omega arith) (omega arith))
+    (λ z c. other_stands x z s.before s.after
+    (subst (λ w. x ≢ w) c.2 (apart zero (suc c.0) z (omega arith) (let lt = c.1 in omega (arith, lt))))
+    (subst (λ l. Contains l z) s.is (inside z (Contains-later x z xs c)))) in
+    omega (arith, fewer, ap length s.is, length-append s.before (x ∷ s.after), length-append s.before s.after)
+
+one_count : {A : Type 0} (items : List A) (n m : ℕ) → HasDistinct items n → HasDistinct items m → n ≡ m
+one_count items n m one two =
+    let few = no_more one.set two.set one.each_once (λ x c. (two.members x).1 ((one.members x).0 c)) in
+    let also = no_more two.set one.set two.each_once (λ x c. (one.members x).1 ((two.members x).0 c)) in
+    omega (arith, few, also, one.as_many, two.as_many)
+
+-- a load has one count of predicates
+pub one_predicate_count : (load : Load) (n m : ℕ) → HasPredicateCount load n → HasPredicateCount load m → n ≡ m
+one_predicate_count load n m one two =
+    let same = one_count (filled_pairs load.axioms) one.fillers two.fillers one.distinct two.distinct in
+    omega (arith, same, one.is, two.is)
+
+-- ---- what is wrong with a load
+
+pub one_load_wrong : {load : Load} {asked : Query} {one two : Refusal} → IsLoadWrong load asked one → IsLoadWrong load asked two → one ≡ two
+one_load_wrong (not_built a) (not_built b) = refl
+one_load_wrong (not_built a) (too_heavy served b) = absurd (a served)
+one_load_wrong (not_built a) (too_many_predicates served b c d) = absurd (a served)
+one_load_wrong (too_heavy served a) (not_built b) = absurd (b served)
+one_load_wrong (too_heavy served a) (too_heavy also b) = refl
+one_load_wrong (too_heavy served a) (too_many_predicates also b c d) = absurd (omega (arith, a, b))
+one_load_wrong (too_many_predicates served a c d) (not_built b) = absurd (b served)
+one_load_wrong (too_many_predicates served a c d) (too_heavy also b) = absurd (omega (arith, a, b))
+one_load_wrong {load} {asked} (too_many_predicates {count = n} served a c d) (too_many_predicates {count = m} also b e f) =
+    ap (λ k. TooManyPredicates (told k)) (one_predicate_count load n m c e)
+
+pub wrong_or_answered : {load : Load} {asked : Query} {refusal : Refusal} → IsLoadWrong load asked refusal → IsAnswered load asked → ⊥
+wrong_or_answered (not_built a) answered = a answered.served
+wrong_or_answered (too_heavy served a) answered = omega (arith, a, answered.limits.weight)
+wrong_or_answered {load} (too_many_predicates {count = n} served a c d) answered =
+    omega (arith, d, answered.limits.few, one_predicate_count load n answered.limits.predicates c answered.limits.counted)
+
+-- ---- what is told
+
+module _ (load : Load) (asked : Query) (served : IsServed load.axioms asked load.nothing) where
+  pub heavy : (weight : ℕ) → weight ≡ min (total_weight load.axioms) (2 ^ 64 - 1) → 65536 < weight → IsLoadWrong load asked (TooHeavy weight)
+  heavy weight is over =
+      subst (λ w. IsLoadWrong load asked (TooHeavy w)) (sym is) (too_heavy served (omega (arith, is, over)))
+
+  module _ (weight : ℕ) (weight_is : weight ≡ min (total_weight load.axioms) (2 ^ 64 - 1)) (light : weight ≤ 65536) (n count : ℕ)
+      (counted : HasPredicateCount load count) (told_is : n ≡ told count) where
+    light_enough : total_weight load.axioms ≤ max_weight
+    light_enough = omega (arith, weight_is, light)
+
+    pub many : 4096 < n → IsLoadWrong load asked (TooManyPredicates n)
+    many over =
+        subst (λ k. IsLoadWrong load asked (TooManyPredicates k)) (sym told_is)
+        (too_many_predicates served light_enough counted (omega (arith, told_is, over)))
+
+    pub answered : n ≤ 4096 → IsAnswered load asked
+    answered few = record {
+      served = served;
+      limits = record { weight = light_enough; predicates = count; counted = counted; few = omega (arith, told_is, few) };
+    }
+
+-- the count of predicates, as it is summed up
+pub counted_told : (load : Load) (cs rs fs first n : ℕ) → cs ≡ length load.signature.classes → rs ≡ length load.signature.roles
+    → HasDistinct (filled_pairs load.axioms) fs → first ≡ min (cs + rs) (2 ^ 64 - 1) → n ≡ min (first + fs) (2 ^ 64 - 1)
+    → (count : ℕ) × HasPredicateCount load count × (n ≡ told count)
+counted_told load cs rs fs first n a b distinct c d = (
+  length load.signature.classes + length load.signature.roles + fs,
+  record { fillers = fs; distinct = distinct; is = refl },
+  omega (arith, a, b, c, d),
+)
