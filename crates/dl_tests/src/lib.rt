@@ -7,6 +7,8 @@ mod answer;
 #[cfg(test)]
 mod axioms;
 #[cfg(test)]
+mod command_queries;
+#[cfg(test)]
 mod deny;
 #[cfg(test)]
 mod faults;
