@@ -1,0 +1,6 @@
+pub mod OverNames
+pub mod Known
+pub mod Parts
+pub mod Merged
+pub mod Disjuncts
+pub mod Rewriting
