@@ -5,3 +5,11 @@ pub mod MergeLemmas
 pub mod DisjunctLemmas
 pub mod RewritingLemmas
 pub mod KnownLemmas
+pub mod PairLemmas
+pub mod MergedLemmas
+pub mod CutLemmas
+pub mod StepLemmas
+pub mod ShapeLemmas
+pub mod ListLemmas
+pub mod PartsLemmas
+pub mod FoundLemmas

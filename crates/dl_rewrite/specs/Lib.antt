@@ -4,3 +4,5 @@ pub mod Parts
 pub mod Merged
 pub mod Disjuncts
 pub mod Rewriting
+pub mod Steps
+pub mod Shape
