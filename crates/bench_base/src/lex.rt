@@ -29,7 +29,7 @@ pub fn run<R: AllocGlobal + Print>(rt: &R, words: &[String]) -> io::Result<bool>
 }
 
 /// How many tokens the bytes have up to the end or the first fault.
-fn count(bytes: &[u8]) -> u64 {
+pub fn count(bytes: &[u8]) -> u64 {
     let mut lexer = Lexer::new(bytes);
     let mut tokens = 0u64;
     for _ in 0..u64::MAX {

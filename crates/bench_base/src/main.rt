@@ -3,7 +3,9 @@
 
 mod answer;
 mod hierarchy;
+mod join;
 mod lex;
+mod ontology;
 mod reach;
 mod trees;
 mod triples;
@@ -23,6 +25,8 @@ fn main(rt: HostRuntime) -> io::Result<ExitCode> {
         Some(word) if word.as_str() == "triples" => triples::run(&rt, &words)?,
         Some(word) if word.as_str() == "hierarchy" => hierarchy::run(&rt, &words)?,
         Some(word) if word.as_str() == "trees" => trees::run(&rt, &words)?,
+        Some(word) if word.as_str() == "ontology" => ontology::run(&rt, &words)?,
+        Some(word) if word.as_str() == "join" => join::run(&rt, &words)?,
         _ => false,
     };
     if done {
@@ -34,5 +38,7 @@ fn main(rt: HostRuntime) -> io::Result<ExitCode> {
     eprintln!(rt; "bench_base {}", triples::WORDS)?;
     eprintln!(rt; "bench_base {}", hierarchy::WORDS)?;
     eprintln!(rt; "bench_base {}", trees::WORDS)?;
+    eprintln!(rt; "bench_base {}", ontology::WORDS)?;
+    eprintln!(rt; "bench_base {}", join::WORDS)?;
     Ok(ExitCode::FAILURE)
 }
