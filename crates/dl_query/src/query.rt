@@ -19,8 +19,8 @@ use std::alloc::Global;
 
 /// Reads a query text. Its names get their places in `names`, and its variables their numbers in the order in which
 /// they first occur, the head first. The fault is the first one of the text: at the first token at which reading can't
-/// go on, then `Unsafe`, then `TooLarge`. `NoMemory` may come at any time. After a fault `names` has the names that were
-/// read before it. The grammar is this project's own.
+/// go on, then `Unsafe`, then `TooLarge`. `NoMemory` may come at any time. After a fault `names` has the names that
+/// were read before it. The grammar is this project's own.
 pub fn read_query(alloc: Global, bytes: &[u8], names: &mut NameSet) -> Result<Query, QueryFault>
     ensures ok { IfOk result (λ query. IsValue bytes.now names.old query names.new) }
     ensures places { IfOk result (λ query. All (λ place. place < length names.new) (query_names query)) }
