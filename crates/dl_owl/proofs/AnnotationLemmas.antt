@@ -28,7 +28,7 @@ module _ (e next : Expected) (s : Spot) (p : Prefixes) (names : List name_list.T
       (ap (λ t. let u : Spot = record { bytes = new.bytes; token = new.token; depth = depth_after t new.depth } in u)
       (sym node_is))
 
-  pub node-faults : (fault : OwlFault) → NoneNext s fault → Faults e (here s p names) fault
+  pub node-faults : (fault : OwlFault) → NoneNext s fault → Faults e (here s p names) names fault
   node-faults fault none =
       advance-faults e next s p names (ap (move_of p e) node_is ∙ fits) (ap (λ t. is_too_deep t s.depth) node_is)
       (λ end. let apart : Node ≡ End = sym is ∙ end in cc) fault none
@@ -72,7 +72,7 @@ module _ (kind : TokenKind) (symbol : Symbol) (plain : Says kind symbol) (e next
       (ap (λ d. let u : Spot = record { bytes = new.bytes; token = new.token; depth = d } in u)
       (sym (ap (λ t. depth_after t new.depth) says_it ∙ plain.level new.depth)))
 
-  pub token-faults : (fault : OwlFault) → NoneNext s fault → Faults e (here s p names) fault
+  pub token-faults : (fault : OwlFault) → NoneNext s fault → Faults e (here s p names) names fault
   token-faults fault none =
       advance-faults e next s p names (ap (move_of p e) says_it ∙ fits)
       (ap (λ t. is_too_deep t s.depth) says_it ∙ plain.flat s.depth) (λ end. plain.some (sym is ∙ end)) fault none

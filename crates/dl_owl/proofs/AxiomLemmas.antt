@@ -88,7 +88,7 @@ pub reads_as : {V : Type 0} (e f : (V → Expected) → Expected) (a b : Here) (
     → ((k : V → Expected) → e k ≡ f k)
     → Reads f a b r → Reads e a b r
 reads_as e f a b (Ok v) same h = λ k. subst (λ x. Goes x a (k v) b) (sym (same k)) (h k)
-reads_as e f a b (Err fault) same h = λ k. subst (λ x. Faults x a fault) (sym (same k)) (h k)
+reads_as e f a b (Err fault) same h = λ k. subst (λ x. Faults x a b.names fault) (sym (same k)) (h k)
 
 pub operands_other : (w : Keyword) (k : Item → Expected) → (w ≡ SubClassOf → ⊥)
     → (w ≡ EquivalentClasses → ⊥)

@@ -5,6 +5,7 @@ use Rattle.dl_lex.specs.declared.token.TokenKind.{TokenKind}
 use Rattle.dl_lex.specs.declared.token.TokenKind.TheVariants.{Open, Close, End}
 use Rattle.dl_names.specs.NameList as name_list
 use Rattle.dl_names.specs.NameList.{names_after, place_of}
+use Rattle.dl_names.proofs.NameListLemmas.{Extends-names_after}
 use Rattle.dl_owl.specs.declared.fault.OwlFault.{OwlFault}
 use Rattle.dl_owl.specs.declared.fault.OwlFault.TheVariants as fault
 use Rattle.dl_owl.specs.Symbols as symbols
@@ -17,21 +18,21 @@ use Rattle.dl_owl.specs.Reading.{fails, depth_after, is_too_deep, is_full, outco
 use Rattle.dl_owl.specs.Walk as walk
 use Rattle.dl_owl.specs.Walk.{Spot, symbol_at, Here, here, met_of, FromToken, Goes, Faults, Moved, NoneNext, Reads, Passes}
 use Rattle.dl_owl.proofs.AheadLemmas.{moved_ahead}
-use Rattle.dl_owl.proofs.WalkLemmas.{goes_tokens, one_token, goes-fit, faults-behind, faults-refused, faults-deep, no_token_refused}
+use Rattle.dl_owl.proofs.WalkLemmas.{goes_tokens, one_token, faults_here, goes-fit, faults-behind, faults-refused, faults-deep, no_token_refused}
 
 -- ---- the exit of a `?`
 
 pub exit_passes : (e : Expected → Expected) (a b : Here) (r : Result (Unit {0}) OwlFault) (fault : OwlFault) → IsErrAnd r (λ y. y ≡ fault)
-    → ((k : Expected) → Faults (e k) a fault) → Passes e a b r
+    → ((k : Expected) → Faults (e k) a b.names fault) → Passes e a b r
 exit_passes e a b r fault is h =
     let found = err_from_is_err_and r is in
-    subst (Passes e a b) (sym found.1) (λ k. subst (Faults (e k) a) (sym found.2) (h k))
+    subst (Passes e a b) (sym found.1) (λ k. subst (Faults (e k) a b.names) (sym found.2) (h k))
 
 pub exit_reads : {V : Type 0} (e : (V → Expected) → Expected) (a b : Here) (r : Result V OwlFault) (fault : OwlFault) → IsErrAnd r (λ y. y ≡ fault)
-    → ((k : V → Expected) → Faults (e k) a fault) → Reads e a b r
+    → ((k : V → Expected) → Faults (e k) a b.names fault) → Reads e a b r
 exit_reads e a b r fault is h =
     let found = err_from_is_err_and r is in
-    subst (Reads e a b) (sym found.1) (λ k. subst (Faults (e k) a) (sym found.2) (h k))
+    subst (Reads e a b) (sym found.1) (λ k. subst (Faults (e k) a b.names) (sym found.2) (h k))
 
 -- ---- a token that is passed over
 
@@ -49,9 +50,9 @@ module _ (e next : Expected) (s : Spot) (p : Prefixes) (names : List name_list.T
       (sym (same ∙ (λ i. record { bytes = m.bytes i; token = new.token; depth = depth_after (symbol_at s) (m.depth i) })))
       (goes-fit e next s p names is flat some new.token m.next)
 
-  pub advance-faults : (fault : OwlFault) → NoneNext s fault → Faults e (here s p names) fault
+  pub advance-faults : (fault : OwlFault) → NoneNext s fault → Faults e (here s p names) names fault
   advance-faults fault none =
-      subst (Faults e (here s p names)) (sym none.is)
+      subst (Faults e (here s p names) names) (sym none.is)
       (faults-behind e next s p names is flat some none.at none.none (no_token_refused p next))
 
 -- ---- parentheses
@@ -69,12 +70,12 @@ pub not_kind : (b : Bool) (P : Type 0) → ((IsTrue b → P) × (P → IsTrue b)
 not_kind b P tells not is = true≢false (sym (tells.1 is) ∙ not)
 
 module _ (s : Spot) (p : Prefixes) (names : List name_list.Text) (k : Expected) where
-  pub open-not : (s.token.kind ≡ Open → ⊥) → Faults (open_then k) (here s p names) (fault.Syntax s.token.start)
+  pub open-not : (s.token.kind ≡ Open → ⊥) → Faults (open_then k) (here s p names) names (fault.Syntax s.token.start)
   open-not not =
       faults-refused (open_then k) s p names syntax
       (open_refused s.token.kind (slice_range s.bytes s.token.start s.token.end) p k not)
 
-  pub close-not : (s.token.kind ≡ Close → ⊥) → Faults (close_then k) (here s p names) (fault.Syntax s.token.start)
+  pub close-not : (s.token.kind ≡ Close → ⊥) → Faults (close_then k) (here s p names) names (fault.Syntax s.token.start)
   close-not not =
       faults-refused (close_then k) s p names syntax
       (close_refused s.token.kind (slice_range s.bytes s.token.start s.token.end) p k not)
@@ -85,7 +86,7 @@ module _ (s : Spot) (p : Prefixes) (names : List name_list.Text) (k : Expected) 
   closing_is : s.token.kind ≡ Close → symbol_at s ≡ closing
   closing_is is = ap (λ kind. symbol_of kind (slice_range s.bytes s.token.start s.token.end)) is
 
-  pub open-deep : s.token.kind ≡ Open → is_too_deep opening s.depth ≡ true → Faults (open_then k) (here s p names) (fault.TooDeep s.token.start)
+  pub open-deep : s.token.kind ≡ Open → is_too_deep opening s.depth ≡ true → Faults (open_then k) (here s p names) names (fault.TooDeep s.token.start)
   open-deep is deep =
       faults-deep (open_then k) k s p names (ap (move_of p (open_then k)) (opening_is is))
       (ap (λ t. is_too_deep t s.depth) (opening_is is) ∙ deep)
@@ -99,7 +100,7 @@ module _ (s : Spot) (p : Prefixes) (names : List name_list.Text) (k : Expected) 
         new later m
         (same ∙ ap (λ t. let u : Spot = record new { depth = depth_after t new.depth } in u) (sym (opening_is is)))
 
-    pub open-faults : (fault : OwlFault) → NoneNext s fault → Faults (open_then k) (here s p names) fault
+    pub open-faults : (fault : OwlFault) → NoneNext s fault → Faults (open_then k) (here s p names) names fault
     open-faults fault none =
         advance-faults (open_then k) k s p names (ap (move_of p (open_then k)) (opening_is is))
         (ap (λ t. is_too_deep t s.depth) (opening_is is) ∙ flat) (λ end. let apart : Open ≡ End = sym is ∙ end in cc)
@@ -114,7 +115,7 @@ module _ (s : Spot) (p : Prefixes) (names : List name_list.Text) (k : Expected) 
         new later m
         (same ∙ ap (λ t. let u : Spot = record new { depth = depth_after t new.depth } in u) (sym (closing_is is)))
 
-    pub close-faults : (fault : OwlFault) → NoneNext s fault → Faults (close_then k) (here s p names) fault
+    pub close-faults : (fault : OwlFault) → NoneNext s fault → Faults (close_then k) (here s p names) names fault
     close-faults fault none =
         advance-faults (close_then k) k s p names (ap (move_of p (close_then k)) (closing_is is))
         (ap (λ t. is_too_deep t s.depth) (closing_is is)) (λ end. let apart : Close ≡ End = sym is ∙ end in cc)
@@ -144,6 +145,7 @@ module _ (e : Expected) (s : Spot) (p : Prefixes) (names : List name_list.Text) 
   name-goes room new m = record {
     same = m.bytes;
     ahead = moved_ahead s new m some;
+    grows = Extends-names_after names text;
     on = λ all rest from. (
       placed s.bytes s.token ∷ rest,
       (
@@ -154,9 +156,9 @@ module _ (e : Expected) (s : Spot) (p : Prefixes) (names : List name_list.Text) 
     );
   }
 
-  pub name-full : is_full names text ≡ true → Faults e (here s p names) (fault.TooManyNames s.token.start)
+  pub name-full : is_full names text ≡ true → Faults e (here s p names) names (fault.TooManyNames s.token.start)
   name-full full =
-      inr
+      faults_here e (here s p names) (fault.TooManyNames s.token.start)
       (record {
         cause = too_many_names;
         at = s.token.start;
@@ -174,20 +176,23 @@ module _ (e : Expected) (s : Spot) (p : Prefixes) (names : List name_list.Text) 
             full;
       })
 
-  pub name-faults : is_full names text ≡ false → (fault : OwlFault) → NoneNext s fault → Faults e (here s p names) fault
+  pub name-faults : is_full names text ≡ false → (fault : OwlFault) → NoneNext s fault
+      → Faults e (here s p names) (names_after names text) fault
   name-faults room fault none =
-      subst (Faults e (here s p names)) (sym none.is)
-      (inr
+      subst (Faults e (here s p names) (names_after names text)) (sym none.is)
       (record {
-        cause = syntax;
-        at = none.at;
-        tokens = placed s.bytes s.token ∷ record { symbol = no_token; at = none.at } ∷ [];
-        is = refl;
-        are = walk.FromToken.more some (symbols.AreTokens.fault none.at none.none);
-        comes =
-            taken room (record { symbol = no_token; at = none.at } ∷ [])
-            ∙ ap
-            (outcome_of (record { prefixes = p; names = names_after names text; depth = s.depth }) (record { symbol = no_token; at = none.at })
-            (λ f later. outcome f later []))
-            (no_token_refused p (k (place_of (names_after names text) text)));
-      }))
+        grows = Extends-names_after names text;
+        why = inr (record {
+          cause = syntax;
+          at = none.at;
+          tokens = placed s.bytes s.token ∷ record { symbol = no_token; at = none.at } ∷ [];
+          is = refl;
+          are = walk.FromToken.more some (symbols.AreTokens.fault none.at none.none);
+          comes =
+              taken room (record { symbol = no_token; at = none.at } ∷ [])
+              ∙ ap
+              (outcome_of (record { prefixes = p; names = names_after names text; depth = s.depth }) (record { symbol = no_token; at = none.at })
+              (λ f later. outcome f later []))
+              (no_token_refused p (k (place_of (names_after names text) text)));
+        });
+      })

@@ -99,7 +99,7 @@ different_first a b met later none h =
     }
 
 pub different_first_faults : (a b : Here) (met later : List Text) (fault : OwlFault) → met ≡ []
-    → ReadsDifferent a b met later (Err fault) → (e : Expected) → Faults (different_close 2 [] e) a fault
+    → ReadsDifferent a b met later (Err fault) → (e : Expected) → Faults (different_close 2 [] e) a b.names fault
 different_first_faults a b met later fault none h e =
     h [] (λ t. ap (λ l. has_name l t) (sym none)) (different_close 2 [] e) (λ more. different_close 1 more e) refl
 
@@ -130,7 +130,7 @@ module _ (met later : List Text) (a b d : Here) where
 
   pub different_second_faults : (fault : OwlFault) → Different 1 met a b → ReadsDifferent b d met later (Err fault)
       → (e : Expected)
-      → Faults (different_close 2 [] e) a fault
+      → Faults (different_close 2 [] e) a d.names fault
   different_second_faults fault s h e =
       goes-faults (different_close 2 [] e) a (different_close 1 s.before e) b fault (s.on e)
       (h s.before s.same (different_close 1 s.before e) (λ more. different_close 0 more e) refl)
@@ -151,7 +151,7 @@ module _ (met later : List Text) (a b d : Here) where
       }
 
   pub different_again_faults : (fault : OwlFault) → Different 0 met a b → (b.spot.token.kind ≡ Close → ⊥)
-      → ReadsDifferent b d met later (Err fault) → (e : Expected) → Faults (different_close 2 [] e) a fault
+      → ReadsDifferent b d met later (Err fault) → (e : Expected) → Faults (different_close 2 [] e) a d.names fault
   different_again_faults fault s not h e =
       goes-faults (different_close 2 [] e) a (different_close 0 s.before e) b fault (s.on e)
       (h s.before s.same (different_close 0 s.before e) (λ more. different_close 0 more e)

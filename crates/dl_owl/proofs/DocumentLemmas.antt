@@ -1,10 +1,12 @@
 -- Steps of a reader of ontology documents: tokens that fit, prefixes that are declared, and loops over what is next.
-use Rattle.std.proofs.Common.{◌≡◌, ◌≢◌, ℕ, false, cond, inr, Result, Ok, Err, IsErrAnd, List, [], ◌∷◌, ◌++◌, refl, sym, ap, ◌∙◌, subst, slice_range}
+use Rattle.std.proofs.Common.{◌≡◌, ◌≢◌, ℕ, false, cond, Result, Ok, Err, IsErrAnd, List, [], ◌∷◌, ◌++◌, refl, sym, ap, ◌∙◌, subst, slice_range}
 use Rattle.std.proofs.lemmas.Result.{err_from_is_err_and}
 use Rattle.dl_lex.specs.declared.token.TokenKind.{TokenKind}
 use Rattle.dl_lex.specs.declared.token.TokenKind.TheVariants.{Iri, Short, Equals, End}
 use Rattle.dl_names.specs.NameList as name_list
+use Rattle.dl_names.proofs.NameListLemmas.{Extends-same}
 use Rattle.dl_owl.specs.declared.fault.OwlFault.{OwlFault}
+use Rattle.dl_owl.specs.declared.fault.OwlFault.TheVariants.{Syntax}
 use Rattle.dl_owl.specs.Symbols as symbols
 use Rattle.dl_owl.specs.Symbols.{Symbol, equals, no_token, Placed, placed, symbol_of}
 use Rattle.dl_owl.specs.Prefixes.{Prefixes}
@@ -16,17 +18,17 @@ use Rattle.dl_owl.specs.Reading.{fails, depth_after, is_too_deep, outcome_of, ou
 use Rattle.dl_owl.specs.Walk as walk
 use Rattle.dl_owl.specs.Walk.{Spot, symbol_at, Here, here, met_of, Goes, Faults, Moved, NoneNext, Passes}
 use Rattle.dl_owl.proofs.AheadLemmas.{moved_ahead}
-use Rattle.dl_owl.proofs.WalkLemmas.{goes_tokens, goes-then, goes-faults, no_token_refused}
+use Rattle.dl_owl.proofs.WalkLemmas.{goes_tokens, faults_here, goes-then, goes-faults, no_token_refused}
 use Rattle.dl_owl.proofs.CursorLemmas.{advance-goes, advance-faults}
 use Rattle.dl_owl.proofs.AnnotationLemmas.{Says}
 
 -- ---- one after another
 
 pub exit_leads : (e later : Expected) (a b : Here) (r : Result (Unit {0}) OwlFault) (fault : OwlFault)
-    → IsErrAnd r (λ y. y ≡ fault) → Faults e a fault → Leads e later a b r
+    → IsErrAnd r (λ y. y ≡ fault) → Faults e a b.names fault → Leads e later a b r
 exit_leads e later a b r fault is h =
     let found = err_from_is_err_and r is in
-    subst (Leads e later a b) (sym found.1) (subst (Faults e a) (sym found.2) h)
+    subst (Leads e later a b) (sym found.1) (subst (Faults e a b.names) (sym found.2) h)
 
 pub leads_behind : (e f later : Expected) (a b c : Here) (r : Result (Unit {0}) OwlFault)
     → Goes e a f b → Leads f later b c r → Leads e later a c r
@@ -42,16 +44,16 @@ passes_lead e later a b (Err fault) h = h later
 
 pub record Behind (e : Expected) (from : Here) (later : Expected) (to : Here) : Type 0 where
   pub goes_on : (f : Expected) (c : Here) → Goes later to f c → Goes e from f c
-  pub faults : (fault : OwlFault) → Faults later to fault → Faults e from fault
+  pub faults : (after : List name_list.Text) (fault : OwlFault) → Faults later to after fault → Faults e from after fault
 
 pub behind_start : (e : Expected) (a : Here) → Behind e a e a
-behind_start e a = record { goes_on = λ f c h. h; faults = λ fault h. h }
+behind_start e a = record { goes_on = λ f c h. h; faults = λ after fault h. h }
 
 pub behind_then : (e : Expected) (a : Here) (f : Expected) (b : Here) (g : Expected) (c : Here)
     → Behind e a f b → Goes f b g c → Behind e a g c
 behind_then e a f b g c front step = record {
   goes_on = λ h d later. front.goes_on h d (goes-then f b g c h d step later);
-  faults = λ fault later. front.faults fault (goes-faults f b g c fault step later);
+  faults = λ after fault later. front.faults after fault (goes-faults f b g c fault step later);
 }
 
 -- ---- a token that fits and is no parenthesis
@@ -91,7 +93,7 @@ module _ (kind : TokenKind) (plain : Plain kind) (e : Expected) (s : Spot) (p : 
         (ap (λ d. let u : Spot = record { bytes = new.bytes; token = new.token; depth = d } in u) (sym (level
         new.depth)))
 
-    pub plain-faults : (fault : OwlFault) → NoneNext s fault → Faults e (here s p names) fault
+    pub plain-faults : (fault : OwlFault) → NoneNext s fault → Faults e (here s p names) names fault
     plain-faults fault none = advance-faults e next s p names fits (flat s.depth) some fault none
 
   -- a prefix that is declared
@@ -118,6 +120,7 @@ module _ (kind : TokenKind) (plain : Plain kind) (e : Expected) (s : Spot) (p : 
       declares-goes new m = record {
         same = m.bytes;
         ahead = moved_ahead s new m some;
+        grows = Extends-same names;
         on = λ all rest from. (
           placed s.bytes s.token ∷ rest,
           (
@@ -129,10 +132,10 @@ module _ (kind : TokenKind) (plain : Plain kind) (e : Expected) (s : Spot) (p : 
         );
       }
 
-      pub declares-faults : (fault : OwlFault) → NoneNext s fault → Faults e (here s p names) fault
+      pub declares-faults : (fault : OwlFault) → NoneNext s fault → Faults e (here s p names) names fault
       declares-faults fault none =
-          subst (Faults e (here s p names)) (sym none.is)
-          (inr
+          subst (Faults e (here s p names) names) (sym none.is)
+          (faults_here e (here s p names) (Syntax none.at)
           (record {
             cause = syntax;
             at = none.at;

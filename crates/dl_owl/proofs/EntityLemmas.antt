@@ -32,5 +32,5 @@ module _ (k : Item → Expected) (next : Expected) (s : Spot) (p : Prefixes) (na
   pub entity-goes : (new : Spot) → Moved s new → Goes (entity_then k) (here s p names) next (here new p names)
   entity-goes new m = keyword-goes word.0 (entity_then k) next s p names word.1 fits new m
 
-  pub entity-faults : (fault : OwlFault) → NoneNext s fault → Faults (entity_then k) (here s p names) fault
+  pub entity-faults : (fault : OwlFault) → NoneNext s fault → Faults (entity_then k) (here s p names) names fault
   entity-faults fault none = keyword-faults word.0 (entity_then k) next s p names word.1 fits fault none

@@ -39,7 +39,7 @@ module _ (w : Keyword) (e next : Expected) (s : Spot) (p : Prefixes) (names : Li
       (λ end. let apart : Word w ≡ End = sym is ∙ end in cc) new new m
       (ap (λ t. let u : Spot = record { bytes = new.bytes; token = new.token; depth = depth_after t new.depth } in u) (sym symbol_is))
 
-  pub keyword-faults : (fault : OwlFault) → NoneNext s fault → Faults e (here s p names) fault
+  pub keyword-faults : (fault : OwlFault) → NoneNext s fault → Faults e (here s p names) names fault
   keyword-faults fault none =
       advance-faults e next s p names (ap (move_of p e) symbol_is ∙ fits) (ap (λ t. is_too_deep t s.depth) symbol_is)
       (λ end. let apart : Word w ≡ End = sym is ∙ end in cc) fault none

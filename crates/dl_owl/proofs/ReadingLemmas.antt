@@ -1,5 +1,5 @@
 -- From the first token of the bytes to all that is read.
-use Rattle.std.proofs.Common.{◌≡◌, ◌≢◌, ◌<◌, ℕ, true, false, All, Result, Ok, Err, IfOk, IfErr, OnOk, List, [], ◌∷◌, length, inl, inr, sym, ap, ◌∙◌, subst}
+use Rattle.std.proofs.Common.{◌≡◌, ◌≢◌, ◌<◌, ℕ, true, false, All, Result, Ok, Err, IfOk, IfErr, List, [], ◌∷◌, length, inl, inr, sym, ap, ◌∙◌, subst, ◌⊎◌}
 use Rattle.dl_names.specs.NameList.{Text, Extends}
 use Rattle.dl_terms.specs.Fillers.{HasNoFiller}
 use Rattle.dl_terms.specs.Occurring.{axiom_names, fact_names}
@@ -13,7 +13,7 @@ use Rattle.dl_owl.specs.Causes.{syntax}
 use Rattle.dl_owl.specs.Documents.{GivesBy, Ends}
 use Rattle.dl_owl.specs.Expected.{Expected}
 use Rattle.dl_owl.specs.Reading.{gives, outcome, outcome_of, start, ReadsValue, IsFault}
-use Rattle.dl_owl.specs.Walk.{Spot, here, met_of, FromToken, Faults, Begins, NoneFirst}
+use Rattle.dl_owl.specs.Walk.{Spot, here, met_of, FromToken, FaultsBy, Begins, NoneFirst}
 use Rattle.dl_owl.proofs.PlaceLemmas.{Places}
 use Rattle.dl_owl.proofs.WalkLemmas.{goes_tokens, no_token_refused}
 
@@ -47,7 +47,7 @@ module _ (bytes : List ℕ) (e : Expected) (names : List Text) where
       comes = ap (λ met. outcome e met h.tokens) (sym from_is) ∙ h.comes;
     }
 
-    pub fault_given : (fault : OwlFault) → Faults e (here s predefined names) fault → fault ≢ NoMemory
+    fault_given : (fault : OwlFault) → (fault ≡ NoMemory) ⊎ FaultsBy e (here s predefined names) fault → fault ≢ NoMemory
         → IsFault bytes e names fault
     fault_given fault (inl none) some = absurd (some none)
     fault_given fault (inr by) some = record {
@@ -74,7 +74,7 @@ module _ (bytes : List ℕ) (e : Expected) (names : List Text) where
       pub told_fault : (r : Result Document OwlFault) → Ends e (here s predefined names) after r
           → IfErr r (λ fault. fault ≢ NoMemory → IsFault bytes e names fault)
       told_fault (Ok d) h = tt
-      told_fault (Err fault) h = fault_given fault h
+      told_fault (Err fault) h = fault_given fault h.why
 
       pub told_plain : ((d : Document) → ReadsValue bytes e names d after → All HasNoFiller d.axioms) → (r : Result Document OwlFault)
           → Ends e (here s predefined names) after r → IfOk r (λ d. All HasNoFiller d.axioms)
@@ -107,6 +107,6 @@ module _ (bytes : List ℕ) (e : Expected) (names : List Text) where
         told_roles (Err fault) h = tt
 
         pub told_growth : (r : Result Document OwlFault) → Ends e (here s predefined names) after r
-            → OnOk r (Extends names after)
+            → Extends names after
         told_growth (Ok d) h = (places_of d h).grows
-        told_growth (Err fault) h = tt
+        told_growth (Err fault) h = h.grows

@@ -89,7 +89,7 @@ module _ (V : Type 0) (c : ℕ → List V → (List V → Expected) → Expected
 
   pub series_first_faults : (a b : Here) (before after : List V) (fault : OwlFault) → Appends e a b before after
       (Err fault)
-      → (k : List V → Expected) → Faults (c 2 [] k) a fault
+      → (k : List V → Expected) → Faults (c 2 [] k) a b.names fault
   series_first_faults a b before after fault h k =
       faults_alike (c 2 [] k) (e (λ items. c 1 items k)) a fault (series.more a.prefixes 1 [] k (symbol_at a.spot))
       (h (λ items. c 1 items k))
@@ -119,7 +119,7 @@ module _ (V : Type 0) (c : ℕ → List V → (List V → Expected) → Expected
 
       pub series_next_faults : (n : ℕ) (fault : OwlFault) → Series V E c (suc n) outer now a b → Appends e b d now
           after (Err fault)
-          → (k : List V → Expected) → Faults (E k) a fault
+          → (k : List V → Expected) → Faults (E k) a d.names fault
       series_next_faults n fault s h k =
           goes-faults (E k) a (e (λ items. c n (s.inner ++ items) k)) b fault (next_on n s k)
           (h (λ items. c n (s.inner ++ items) k))
@@ -146,7 +146,7 @@ module _ (V : Type 0) (c : ℕ → List V → (List V → Expected) → Expected
       }
 
       pub series_again_faults : (fault : OwlFault) → Series V E c zero outer now a b → (b.spot.token.kind ≡ Close → ⊥)
-          → Appends e b d now after (Err fault) → (k : List V → Expected) → Faults (E k) a fault
+          → Appends e b d now after (Err fault) → (k : List V → Expected) → Faults (E k) a d.names fault
       series_again_faults fault s not h k =
           goes-faults (E k) a (e (λ items. c zero (s.inner ++ items) k)) b fault (again_on s not k)
           (h (λ items. c zero (s.inner ++ items) k))

@@ -24,10 +24,10 @@ use Rattle.dl_owl.proofs.CursorLemmas.{advance-goes, advance-faults, name-goes, 
 
 pub exit_follows : {V : Type 0} (m : (V → Expected) → Move) (a b : Here) (r : Result V OwlFault) (fault : OwlFault)
     → IsErrAnd r (λ y. y ≡ fault)
-    → ((e : Expected) (k : V → Expected) → move_of a.prefixes e (symbol_at a.spot) ≡ m k → Faults e a fault) → Follows m a b r
+    → ((e : Expected) (k : V → Expected) → move_of a.prefixes e (symbol_at a.spot) ≡ m k → Faults e a b.names fault) → Follows m a b r
 exit_follows m a b r fault is h =
     let found = err_from_is_err_and r is in
-    subst (Follows m a b) (sym found.1) (λ e k same. subst (Faults e a) (sym found.2) (h e k same))
+    subst (Follows m a b) (sym found.1) (λ e k same. subst (Faults e a b.names) (sym found.2) (h e k same))
 
 pub follows_as : {V : Type 0} (m n : (V → Expected) → Move) (a b : Here) (r : Result V OwlFault)
     → ((k : V → Expected) → n k ≡ m k) → Follows m a b r → Follows n a b r
@@ -100,11 +100,17 @@ module _ (s : Spot) (p : Prefixes) (names : List name_list.Text) (text : name_li
       (subst (λ j. Goes e (here s p names) (k j) (here new p (names_after names text))) (sym at)
       (name-goes e s p names text k is flat level some free new m))
 
-  pub took_full : is_full names text ≡ true → Faults e (here s p names) (fault.TooManyNames s.token.start)
-  took_full full = name-full e s p names text k is flat level some full
+  pub took_full : is_full names text ≡ true → (after : List name_list.Text) → after ≡ names
+      → Faults e (here s p names) after (fault.TooManyNames s.token.start)
+  took_full full after same =
+      subst (λ l. Faults e (here s p names) l (fault.TooManyNames s.token.start)) (sym same)
+      (name-full e s p names text k is flat level some full)
 
-  pub took_faults : is_full names text ≡ false → (fault : OwlFault) → NoneNext s fault → Faults e (here s p names) fault
-  took_faults free fault none = name-faults e s p names text k is flat level some free fault none
+  pub took_faults : is_full names text ≡ false → (fault : OwlFault) → NoneNext s fault → (after : List name_list.Text)
+      → after ≡ names_after names text → Faults e (here s p names) after fault
+  took_faults free fault none after named =
+      subst (λ l. Faults e (here s p names) l fault) (sym named)
+      (name-faults e s p names text k is flat level some free fault none)
 
 -- ---- an IRI that is passed over
 
@@ -117,7 +123,7 @@ module _ (s : Spot) (p : Prefixes) (names : List name_list.Text) (text : name_li
       (ap (λ d. let t : Spot = record { bytes = new.bytes; token = new.token; depth = d } in t)
       (sym (iri_level p (symbol_at s) text new.depth iri)))
 
-  pub passed_faults : (fault : OwlFault) → NoneNext s fault → Faults e (here s p names) fault
+  pub passed_faults : (fault : OwlFault) → NoneNext s fault → Faults e (here s p names) names fault
   passed_faults fault none =
       advance-faults e next s p names is (iri_flat p (symbol_at s) text s.depth iri)
       (iri_some p s.token.kind (slice_range s.bytes s.token.start s.token.end) text iri) fault none
@@ -142,10 +148,10 @@ found_iri p s text h =
 module _ (s : Spot) (p : Prefixes) (names : List name_list.Text) (e : Expected) (k : name_list.Text → Move) (cause : Cause)
     (is : move_of p e (symbol_at s) ≡ at_iri p (symbol_at s) k (refuses cause)) where
   pub found_unknown : ((l : name_list.Text → Move) (other : Move) → at_iri p (symbol_at s) l other ≡ refuses prefix_unknown)
-      → Faults e (here s p names) (fault.PrefixUnknown s.token.start)
+      → Faults e (here s p names) names (fault.PrefixUnknown s.token.start)
   found_unknown h = faults-refused e s p names prefix_unknown (is ∙ h k (refuses cause))
 
   pub found_other : (fault : OwlFault) → fault ≡ fault_of cause s.token.start
-      → ((l : name_list.Text → Move) (other : Move) → at_iri p (symbol_at s) l other ≡ other) → Faults e (here s p names) fault
+      → ((l : name_list.Text → Move) (other : Move) → at_iri p (symbol_at s) l other ≡ other) → Faults e (here s p names) names fault
   found_other fault same h =
-      subst (Faults e (here s p names)) (sym same) (faults-refused e s p names cause (is ∙ h k (refuses cause)))
+      subst (Faults e (here s p names) names) (sym same) (faults-refused e s p names cause (is ∙ h k (refuses cause)))

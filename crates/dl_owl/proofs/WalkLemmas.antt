@@ -1,14 +1,16 @@
 -- Steps of a reader over the tokens, one after another.
-use Rattle.std.proofs.Common.{◌≡◌, ◌≢◌, ℕ, suc, zero, Bool, true, false, cond, not, inl, inr, Result, Ok, Err, List, [], ◌∷◌, refl, sym, ap, ◌∙◌, subst}
+use Rattle.std.proofs.Common.{◌≡◌, ◌≢◌, ℕ, suc, zero, Bool, true, false, cond, not, inl, inr, Result, Ok, Err, List, [], ◌∷◌, refl, sym, ap, ◌∙◌, subst, ◌⊎◌}
 use Rattle.std.proofs.Math.Nat.{lt_trans}
 use Rattle.dl_lex.specs.declared.token.TokenKind.{TokenKind}
 use Rattle.dl_lex.specs.declared.token.TokenKind.TheVariants.{Open, Close, Equals, Caret, Iri, Text, Lang, Node, Short, Number, Word, End}
 use Rattle.dl_lex.specs.declared.token.Token.{Token}
 use Rattle.dl_lex.specs.Grammar.{IsNextToken, IsFaultAt}
 use Rattle.dl_names.specs.NameList as name_list
-use Rattle.dl_names.specs.NameList.{names_after, place_of}
+use Rattle.dl_names.specs.NameList.{Extends}
+use Rattle.dl_names.proofs.NameListLemmas.{Extends-same, Extends-trans}
 use Rattle.dl_owl.specs.declared.fault.OwlFault.{OwlFault}
 use Rattle.dl_owl.specs.declared.fault.OwlFault.TheVariants as fault
+use Rattle.dl_owl.specs.declared.fault.OwlFault.TheVariants.{NoMemory}
 use Rattle.dl_owl.specs.Symbols as symbols
 use Rattle.dl_owl.specs.Symbols.{Symbol, no_token, Placed, placed, symbol_of, AreTokens}
 use Rattle.dl_owl.specs.Prefixes.{Prefixes}
@@ -31,6 +33,7 @@ pub goes-then : (e : Expected) (a : Here) (f : Expected) (b : Here) (g : Expecte
 goes-then e a f b g c first second = record {
   same = second.same ∙ first.same;
   ahead = lt_trans second.ahead first.ahead;
+  grows = Extends-trans a.names b.names c.names first.grows second.grows;
   on = λ all rest from.
       let middle =
       second.on all rest (subst (λ bytes. FromToken bytes all c.spot.token rest) (sym first.same) from) in
@@ -39,9 +42,11 @@ goes-then e a f b g c first second = record {
       (front.0, (front.1.0, front.1.1 ∙ middle.1.1));
 }
 
-pub goes-faults : (e : Expected) (a : Here) (f : Expected) (b : Here) (fault : OwlFault) → Goes e a f b → Faults f b fault → Faults e a fault
-goes-faults e a f b fault first (inl none) = inl none
-goes-faults e a f b fault first (inr by) =
+-- why it comes to a fault there is why it does here
+why_behind : (e : Expected) (a : Here) (f : Expected) (b : Here) (fault : OwlFault) → Goes e a f b
+    → (fault ≡ NoMemory) ⊎ FaultsBy f b fault → (fault ≡ NoMemory) ⊎ FaultsBy e a fault
+why_behind e a f b fault first (inl none) = inl none
+why_behind e a f b fault first (inr by) =
     let front = first.on false by.tokens (subst (λ bytes. FromToken bytes false b.spot.token by.tokens) first.same by.are) in
     inr
     (record {
@@ -52,6 +57,21 @@ goes-faults e a f b fault first (inr by) =
       are = front.1.0;
       comes = front.1.1 ∙ by.comes;
     })
+
+pub goes-faults : {after : List name_list.Text} (e : Expected) (a : Here) (f : Expected) (b : Here) (fault : OwlFault)
+    → Goes e a f b → Faults f b after fault → Faults e a after fault
+goes-faults {after = after} e a f b fault first h = record {
+  grows = Extends-trans a.names b.names after first.grows h.grows;
+  why = why_behind e a f b fault first h.why;
+}
+
+-- it comes to a fault here, and the names are as before
+pub faults_here : (e : Expected) (a : Here) (fault : OwlFault) → FaultsBy e a fault → Faults e a a.names fault
+faults_here e a fault by = record { grows = Extends-same a.names; why = inr by }
+
+-- memory is refused, where the names have grown to these
+pub no_memory : (e : Expected) (a : Here) (after : List name_list.Text) → Extends a.names after → Faults e a after NoMemory
+no_memory e a after grows = record { grows = grows; why = inl refl }
 
 -- what is read behind what was passed over
 pub reads_behind : {V : Type 0} (e f : (V → Expected) → Expected) (a b c : Here) (r : Result V OwlFault)
@@ -74,6 +94,7 @@ pub goes_alike : (e f : Expected) (a : Here) (later : Expected) (b : Here)
 goes_alike e f a later b is h = record {
   same = h.same;
   ahead = h.ahead;
+  grows = h.grows;
   on = λ all rest from.
       let front = h.on all rest from in
       (front.0, (front.1.0, outcome_alike e f a all front.0 front.1.0 is ∙ front.1.1));
@@ -85,16 +106,18 @@ pub goes_as : (e : Expected) (a : Here) (f g : Expected) (b : Here)
 goes_as e a f g b is h = record {
   same = h.same;
   ahead = h.ahead;
+  grows = h.grows;
   on = λ all rest from.
       let front = h.on all rest from in
       let there = subst (λ bytes. FromToken bytes all b.spot.token rest) (sym h.same) from in
       (front.0, (front.1.0, front.1.1 ∙ outcome_alike f g b all rest there is));
 }
 
-pub faults_alike : (e f : Expected) (a : Here) (fault : OwlFault)
-    → move_of a.prefixes e (symbol_at a.spot) ≡ move_of a.prefixes f (symbol_at a.spot) → Faults f a fault → Faults e a fault
-faults_alike e f a fault is (inl none) = inl none
-faults_alike e f a fault is (inr by) =
+why_alike : (e f : Expected) (a : Here) (fault : OwlFault)
+    → move_of a.prefixes e (symbol_at a.spot) ≡ move_of a.prefixes f (symbol_at a.spot)
+    → (fault ≡ NoMemory) ⊎ FaultsBy f a fault → (fault ≡ NoMemory) ⊎ FaultsBy e a fault
+why_alike e f a fault is (inl none) = inl none
+why_alike e f a fault is (inr by) =
     inr
     (record {
       cause = by.cause;
@@ -104,6 +127,11 @@ faults_alike e f a fault is (inr by) =
       are = by.are;
       comes = outcome_alike e f a false by.tokens by.are is ∙ by.comes;
     })
+
+pub faults_alike : {after : List name_list.Text} (e f : Expected) (a : Here) (fault : OwlFault)
+    → move_of a.prefixes e (symbol_at a.spot) ≡ move_of a.prefixes f (symbol_at a.spot) → Faults f a after fault
+    → Faults e a after fault
+faults_alike e f a fault is h = record { grows = h.grows; why = why_alike e f a fault is h.why }
 
 -- the same of what has no value
 pub passes_behind : (e f : Expected → Expected) (a b c : Here) (r : Result (Unit {0}) OwlFault)
@@ -134,14 +162,15 @@ module _ (e next : Expected) (s : Spot) (p : Prefixes) (names : List name_list.T
   goes-fit t after = record {
     same = refl;
     ahead = next_left s.bytes s.token t some after;
+    grows = Extends-same names;
     on = λ all rest from.
         (placed s.bytes s.token ∷ rest, (walk.FromToken.more some (goes_tokens s.bytes all s.token.end t rest after from), fits rest));
   }
 
   pub faults-behind : (at : ℕ) → IsFaultAt s.bytes s.token.end at → move_of p next no_token ≡ refuses syntax
-      → Faults e (here s p names) (fault.Syntax at)
+      → Faults e (here s p names) names (fault.Syntax at)
   faults-behind at none refused =
-      inr
+      faults_here e (here s p names) (fault.Syntax at)
       (record {
         cause = syntax;
         at = at;
@@ -178,9 +207,9 @@ one_token bytes t = by t.kind refl
     by (Word k) is = other (λ end. let apart : Word k ≡ End = sym is ∙ end in cc)
 
 pub faults-refused : (e : Expected) (s : Spot) (p : Prefixes) (names : List name_list.Text) (cause : Cause)
-    → move_of p e (symbol_at s) ≡ refuses cause → Faults e (here s p names) (fault_of cause s.token.start)
+    → move_of p e (symbol_at s) ≡ refuses cause → Faults e (here s p names) names (fault_of cause s.token.start)
 faults-refused e s p names cause is =
-    inr
+    faults_here e (here s p names) (fault_of cause s.token.start)
     (record {
       cause = cause;
       at = s.token.start;
@@ -192,9 +221,9 @@ faults-refused e s p names cause is =
 
 pub faults-deep : (e next : Expected) (s : Spot) (p : Prefixes) (names : List name_list.Text)
     → move_of p e (symbol_at s) ≡ goes next → is_too_deep (symbol_at s) s.depth ≡ true
-    → Faults e (here s p names) (fault.TooDeep s.token.start)
+    → Faults e (here s p names) names (fault.TooDeep s.token.start)
 faults-deep e next s p names is deep =
-    inr
+    faults_here e (here s p names) (fault.TooDeep s.token.start)
     (record {
       cause = too_deep;
       at = s.token.start;

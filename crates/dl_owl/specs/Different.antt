@@ -20,4 +20,4 @@ ReadsDifferent from to old new (Ok _) =
 ReadsDifferent from to old new (Err fault) =
     (before : List Text) → HaveSame before old → (e : Expected) (k : List Text → Expected)
     → move_of from.prefixes e (symbol_at from.spot) ≡ different_next from.prefixes before k (symbol_at from.spot)
-    → Faults e from fault
+    → Faults e from to.names fault

@@ -4,7 +4,7 @@ use Rattle.dl_lex.specs.declared.token.TokenKind.{TokenKind}
 use Rattle.dl_lex.specs.declared.token.TokenKind.TheVariants.{End}
 use Rattle.dl_lex.specs.declared.token.Token.{Token}
 use Rattle.dl_lex.specs.Grammar.{IsNextToken, IsFaultAt}
-use Rattle.dl_names.specs.NameList.{Text}
+use Rattle.dl_names.specs.NameList.{Text, Extends}
 use Rattle.dl_owl.specs.declared.fault.OwlFault.{OwlFault}
 use Rattle.dl_owl.specs.declared.fault.OwlFault.TheVariants.{Syntax, NoMemory}
 use Rattle.dl_owl.specs.Symbols.{Symbol, Placed, placed, AreTokens}
@@ -53,11 +53,12 @@ pub data FromToken (bytes : List ℕ) (all : Bool) (t : Token) : List Placed →
   more : {rest : List Placed} → t.kind ≢ End → AreTokens bytes all t.end rest
       → FromToken bytes all t (placed bytes t ∷ rest)
 
--- where this is expected here, that is expected there, further on: whatever tokens stand there, with those before them
--- they come to the same
+-- where this is expected here, that is expected there, further on, and the names have only grown: whatever tokens stand
+-- there, with those before them they come to the same
 pub record Goes (e : Expected) (from : Here) (later : Expected) (to : Here) : Type 0 where
   pub same : to.spot.bytes ≡ from.spot.bytes
   pub ahead : left to.spot < left from.spot
+  pub grows : Extends from.names to.names
   pub on : (all : Bool) (rest : List Placed) → FromToken from.spot.bytes all to.spot.token rest
       → (tokens : List Placed) × (FromToken from.spot.bytes all from.spot.token tokens
       × (outcome e (met_of from) tokens ≡ outcome later (met_of to) rest))
@@ -71,32 +72,34 @@ pub record FaultsBy (e : Expected) (from : Here) (fault : OwlFault) : Type 0 whe
   pub are : FromToken from.spot.bytes false from.spot.token tokens
   pub comes : outcome e (met_of from) tokens ≡ fails cause at
 
-abbrev pub Faults : Expected → Here → OwlFault → Type 0
-Faults e from fault = (fault ≡ NoMemory) ⊎ FaultsBy e from fault
+-- the same, or memory is refused; and up to there the names have only grown to these
+pub record Faults (e : Expected) (from : Here) (after : List Text) (fault : OwlFault) : Type 0 where
+  pub grows : Extends from.names after
+  pub why : (fault ≡ NoMemory) ⊎ FaultsBy e from fault
 
 -- what stands next is read, with its value, up to another place
 abbrev pub Reads : {V : Type 0} → ((V → Expected) → Expected) → Here → Here → Result V OwlFault → Type 0
 Reads {V} e from to (Ok v) = (k : V → Expected) → Goes (e k) from (k v) to
-Reads {V} e from to (Err fault) = (k : V → Expected) → Faults (e k) from fault
+Reads {V} e from to (Err fault) = (k : V → Expected) → Faults (e k) from to.names fault
 
 -- the same of what has no value
 abbrev pub Passes : (Expected → Expected) → Here → Here → Result (Unit {0}) OwlFault → Type 0
 Passes e from to (Ok _) = (k : Expected) → Goes (e k) from k to
-Passes e from to (Err fault) = (k : Expected) → Faults (e k) from fault
+Passes e from to (Err fault) = (k : Expected) → Faults (e k) from to.names fault
 
 -- wherever this is what the next token does, it is read, with a value, up to another place
 abbrev pub Follows : {V : Type 0} → ((V → Expected) → Move) → Here → Here → Result V OwlFault → Type 0
 Follows {V} m from to (Ok v) =
     (e : Expected) (k : V → Expected) → move_of from.prefixes e (symbol_at from.spot) ≡ m k → Goes e from (k v) to
 Follows {V} m from to (Err fault) =
-    (e : Expected) (k : V → Expected) → move_of from.prefixes e (symbol_at from.spot) ≡ m k → Faults e from fault
+    (e : Expected) (k : V → Expected) → move_of from.prefixes e (symbol_at from.spot) ≡ m k → Faults e from to.names fault
 
 -- an IRI of this text stands next; or, where one is expected or else it is this fault, reading comes to a fault
 abbrev pub Expects : Spot → Prefixes → Text → OwlFault → Result (Unit {0}) OwlFault → Type 0
 Expects s p text other (Ok _) = IsIri p (symbol_at s) text
 Expects s p text other (Err fault) =
     (names : List Text) (e : Expected) (k : Text → Move) (cause : Cause) → other ≡ fault_of cause s.token.start
-    → move_of p e (symbol_at s) ≡ at_iri p (symbol_at s) k (refuses cause) → Faults e (here s p names) fault
+    → move_of p e (symbol_at s) ≡ at_iri p (symbol_at s) k (refuses cause) → Faults e (here s p names) names fault
 
 -- the first token of the bytes stands next
 pub record Begins (bytes : List ℕ) (s : Spot) : Type 0 where

@@ -1,5 +1,5 @@
 // Reads an ontology, or one axiom.
-ghost use Rattle.std.specs.Prelude.{◌≡◌, ◌≢◌, ◌<◌, length, All, IfOk, IfErr, OnOk};
+ghost use Rattle.std.specs.Prelude.{◌≡◌, ◌≢◌, ◌<◌, length, All, IfOk, IfErr};
 ghost use Rattle.dl_names.specs.NameList.{Extends};
 ghost use Rattle.dl_terms.specs.Fillers.{HasNoFiller};
 ghost use Rattle.dl_terms.specs.Occurring.{axiom_names, fact_names};
@@ -15,7 +15,7 @@ use std::alloc::Global;
 
 /// Reads an ontology document of OWL 2 QL in the functional-style syntax. Names are places in the name set, by first
 /// occurrence. The fault is that of the first token at which reading can't go on. Memory is all else that may be
-/// wanting. Of the names after an error no clause speaks.
+/// wanting. After an error too the names are those before, at their places, and maybe names read before the fault.
 pub fn read_ontology(alloc: Global, bytes: &[u8], names: &mut NameSet) -> Result<Document, OwlFault>
     ensures value { IfOk result (λ document.
         ReadsValue bytes.now prologue names.old document names.new) }
@@ -29,7 +29,7 @@ pub fn read_ontology(alloc: Global, bytes: &[u8], names: &mut NameSet) -> Result
         All (λ place. place < length names.new) document.classes) }
     ensures role_places { IfOk result (λ document.
         All (λ place. place < length names.new) document.roles) }
-    ensures grows { OnOk result (Extends names.old names.new) }
+    ensures grows { Extends names.old names.new }
     ensures no_fillers { IfOk result (λ document. All HasNoFiller document.axioms) }
 {
     match Cursor::new(bytes) {
@@ -52,7 +52,7 @@ pub fn read_axiom(alloc: Global, bytes: &[u8], names: &mut NameSet) -> Result<Do
         All (λ place. place < length names.new) document.classes) }
     ensures role_places { IfOk result (λ document.
         All (λ place. place < length names.new) document.roles) }
-    ensures grows { OnOk result (Extends names.old names.new) }
+    ensures grows { Extends names.old names.new }
     ensures no_fillers { IfOk result (λ document. All HasNoFiller document.axioms) }
 {
     match Cursor::new(bytes) {

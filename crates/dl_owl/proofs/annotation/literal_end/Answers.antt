@@ -41,7 +41,7 @@ returns-then-is_language c =
 pub returns-then-not-is_caret : goal.returns-then-not-is_caret
 returns-then-not-is_caret c =
     λ names k.
-    subst (λ n. Faults (value_end k) (here c.args.at.now c.args.prefixes.now names) (fault.Syntax n)) (sym
+    subst (λ n. Faults (value_end k) (here c.args.at.now c.args.prefixes.now names) names (fault.Syntax n)) (sym
     c.start-start.ensures)
     (faults-refused (value_end k) c.args.at.now c.args.prefixes.now names syntax
     (literal_refused c.args.at.now.token.kind (slice_range c.args.at.now.bytes c.args.at.now.token.start

@@ -15,7 +15,7 @@ use Rattle.dl_owl.proofs.axiom.axiom.Goals as goal
 pub returns-in_default : goal.returns-in_default
 returns-in_default c =
     λ e k is.
-    subst (λ n. Faults e (here c.args.at.now c.args.prefixes.now c.args.names.now) (fault.Syntax n))
+    subst (λ n. Faults e (here c.args.at.now c.args.prefixes.now c.args.names.now) c.args.names.now (fault.Syntax n))
     (sym c.start-start.ensures)
     (faults-refused e c.args.at.now c.args.prefixes.now c.args.names.now syntax
     (is
@@ -26,7 +26,7 @@ returns-in_default c =
 pub returns-then-not-is_axiom : goal.returns-then-not-is_axiom
 returns-then-not-is_axiom c =
     λ e k is.
-    subst (Faults e (here c.args.at.now c.args.prefixes.now c.args.names.now))
+    subst (Faults e (here c.args.at.now c.args.prefixes.now c.args.names.now) c.args.names.now)
     (sym (c.refused_axiom.ensures ∙ ap (fault_of (refused_axiom c.in-Some.word)) c.start-start.ensures))
     (faults-refused e c.args.at.now c.args.prefixes.now c.args.names.now (refused_axiom c.in-Some.word)
     (axiom_stops c.in-Some.word e k c.args.at.now c.args.prefixes.now c.in-Some.ensures

@@ -30,7 +30,7 @@ returns-then-is_thing c =
     let text = c.as_str-iri.result.now in
     let iri : IsIri p (symbol_at c.args.at.now) text =
     subst (IsIri p (symbol_at c.args.at.now)) (sym c.as_str-iri.ensures.value) c.in_ok-expect_iri.ensures in
-    subst (λ n. Faults e (here c.args.at.now p c.args.names.now) (fault.LeftOut n Thing)) (sym c.start-start.ensures)
+    subst (λ n. Faults e (here c.args.at.now p c.args.names.now) c.args.names.now (fault.LeftOut n Thing)) (sym c.start-start.ensures)
     (faults-refused e c.args.at.now p c.args.names.now (left_out Thing)
     (is
     ∙ class_thing p (symbol_at c.args.at.now) text iri (refuses (left_out Thing)) k (refuses syntax)

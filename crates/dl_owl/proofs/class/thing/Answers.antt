@@ -31,7 +31,7 @@ returns-then-not-is_thing c =
     let text = c.as_str-iri.result.now in
     let iri : IsIri p (symbol_at c.args.at.now) text =
     subst (IsIri p (symbol_at c.args.at.now)) (sym c.as_str-iri.ensures.value) c.in_ok-expect_iri.ensures in
-    subst (λ n. Faults (thing_then k) (here c.args.at.now p names) (fault.NotQl n (construct.Keyword ObjectSomeValuesFrom)))
+    subst (λ n. Faults (thing_then k) (here c.args.at.now p names) names (fault.NotQl n (construct.Keyword ObjectSomeValuesFrom)))
     (sym c.start-start.ensures)
     (faults-refused (thing_then k) c.args.at.now p names (not_ql ObjectSomeValuesFrom)
     (thing_by p (symbol_at c.args.at.now) text iri k (refuses (refused_class ObjectSomeValuesFrom (symbol_at c.args.at.now))) false

@@ -8,7 +8,7 @@ use Rattle.dl_owl.proofs.cursor.close.Goals as goal
 pub returns-then-not-is_close : goal.returns-then-not-is_close
 returns-then-not-is_close c =
     λ p names k.
-    subst (λ n. Faults (close_then k) (here c.args.at.now p names) (fault.Syntax n)) (sym c.start-start.ensures)
+    subst (λ n. Faults (close_then k) (here c.args.at.now p names) names (fault.Syntax n)) (sym c.start-start.ensures)
     (close-not c.args.at.now p names k (not_kind c.is_close.result _ c.is_close.ensures c.if-not-is_close.true))
 
 pub returns-in_err-advance : goal.returns-in_err-advance

@@ -8,13 +8,13 @@ use Rattle.dl_owl.proofs.cursor.open.Goals as goal
 pub returns-then-not-is_open : goal.returns-then-not-is_open
 returns-then-not-is_open c =
     λ p names k.
-    subst (λ n. Faults (open_then k) (here c.args.at.now p names) (fault.Syntax n)) (sym c.start-start.ensures)
+    subst (λ n. Faults (open_then k) (here c.args.at.now p names) names (fault.Syntax n)) (sym c.start-start.ensures)
     (open-not c.args.at.now p names k (not_kind c.is_open.result _ c.is_open.ensures c.if-not-is_open.true))
 
 pub returns-then-is_deep : goal.returns-then-is_deep
 returns-then-is_deep c =
     λ p names k.
-    subst (λ n. Faults (open_then k) (here c.args.at.now p names) (fault.TooDeep n)) (sym c.start-start.ensures)
+    subst (λ n. Faults (open_then k) (here c.args.at.now p names) names (fault.TooDeep n)) (sym c.start-start.ensures)
     (open-deep c.args.at.now p names k (c.is_open.ensures.0 c.if-not-is_open.false) (sym c.is_deep.ensures ∙ c.if-is_deep.true))
 
 pub returns-in_err-advance : goal.returns-in_err-advance

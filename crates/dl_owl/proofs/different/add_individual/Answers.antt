@@ -1,5 +1,6 @@
 use Rattle.std.proofs.Common.{true, false, inl, ◌∷◌, sym, ◌∙◌, subst}
 use Rattle.dl_lex.specs.declared.keyword.Keyword.TheVariants.{DifferentIndividuals}
+use Rattle.dl_names.proofs.NameListLemmas.{Extends-same}
 use Rattle.dl_owl.specs.declared.fault.Construct.TheVariants as construct
 use Rattle.dl_owl.specs.declared.fault.OwlFault.TheVariants as fault
 use Rattle.dl_owl.specs.NamesNext.{IsIri}
@@ -30,7 +31,7 @@ returns-in_err-new c =
     exit_by (ReadsDifferent (here c.args.at.now c.args.prefixes.now names)
     (here c.args.at.now c.args.prefixes.now names) c.args.before.now c.add.new.self)
     c.from_residual-in_err-new.result c.in_err-new.field-0.0 c.from_residual-in_err-new.ensures.1
-    (λ before same e k is. inl c.in_err-new.ensures.fault)
+    (λ before same e k is. record { grows = Extends-same names; why = inl c.in_err-new.ensures.fault })
 
 pub returns-then-not-new : goal.returns-then-not-new
 returns-then-not-new c =
@@ -39,7 +40,7 @@ returns-then-not-new c =
     let text = c.as_str-iri.result.now in
     let iri : IsIri p (symbol_at c.args.at.now) text =
     subst (IsIri p (symbol_at c.args.at.now)) (sym c.as_str-iri.ensures.value) c.in_ok-expect_iri.ensures in
-    subst (λ n. Faults e (here c.args.at.now p names) (fault.LeftOut n (construct.Keyword DifferentIndividuals)))
+    subst (λ n. Faults e (here c.args.at.now p names) names (fault.LeftOut n (construct.Keyword DifferentIndividuals)))
     (sym c.start-start.ensures)
     (faults-refused e c.args.at.now p names (keyword_left_out DifferentIndividuals)
     (is
@@ -53,7 +54,7 @@ returns-then-not-is_free c =
     let text = c.as_str-iri.result.now in
     let iri : IsIri p (symbol_at c.args.at.now) text =
     subst (IsIri p (symbol_at c.args.at.now)) (sym c.as_str-iri.ensures.value) c.in_ok-expect_iri.ensures in
-    subst (λ n. Faults e (here c.args.at.now p names) (fault.Reserved n)) (sym c.start-start.ensures)
+    subst (λ n. Faults e (here c.args.at.now p names) names (fault.Reserved n)) (sym c.start-start.ensures)
     (faults-refused e c.args.at.now p names reserved
     (is
     ∙ individual_once p (symbol_at c.args.at.now) text iri before k

@@ -82,7 +82,7 @@ returns-in_ok-advance-in-Other c =
 pub returns-in-Unknown : goal.returns-in-Unknown
 returns-in-Unknown c =
     λ k.
-    subst (λ n. Faults (entity_then k) (here c.args.at.now c.args.prefixes.now c.args.names.now) (fault.Syntax n))
+    subst (λ n. Faults (entity_then k) (here c.args.at.now c.args.prefixes.now c.args.names.now) c.args.names.now (fault.Syntax n))
     (sym c.start-start.ensures)
     (faults-refused (entity_then k) c.args.at.now c.args.prefixes.now c.args.names.now syntax
     (c.stands_entity.ensures k ∙ ap (λ w. entity_move w k) c.in-Unknown.is))

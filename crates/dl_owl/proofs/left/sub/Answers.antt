@@ -30,7 +30,7 @@ returns-then-is_some c =
 pub returns-in-Some : goal.returns-in-Some
 returns-in-Some c =
     λ k.
-    subst (Faults (sub_then k) (here c.args.at.now c.args.prefixes.now c.args.names.now))
+    subst (Faults (sub_then k) (here c.args.at.now c.args.prefixes.now c.args.names.now) c.args.names.now)
     (sym (c.refused_sub.ensures ∙ ap (fault_of (refused_sub c.in-Some.word)) c.start-start.ensures))
     (faults-refused (sub_then k) c.args.at.now c.args.prefixes.now c.args.names.now (refused_sub c.in-Some.word)
     (sub_refused c.args.at.now.token.kind c.in-Some.word (slice_range c.args.at.now.bytes c.args.at.now.token.start c.args.at.now.token.end) c.args.prefixes.now k

@@ -1,5 +1,23 @@
 use Rattle.std.proofs.Common.{[], ◌∷◌}
+use Rattle.dl_owl.specs.Expected.{role_then}
+use Rattle.dl_owl.specs.Walk.{here}
+use Rattle.dl_owl.proofs.WalkLemmas.{no_memory}
+use Rattle.dl_owl.specs.Series.{Appends}
+use Rattle.dl_owl.proofs.SeriesLemmas.{exit_by}
 use Rattle.dl_owl.proofs.list.add_role.Goals as goal
 
 pub returns : goal.returns
 returns c = (c.in_ok-next.next ∷ [], c.in-Ok.ensures.ok, λ k. c.in_ok-next.ensures (λ v. k (v ∷ [])))
+
+pub returns-in_default : goal.returns-in_default
+returns-in_default c =
+    λ k.
+    no_memory (role_then (λ r. k (r ∷ []))) (here c.args.at.now c.args.prefixes.now c.args.names.now)
+    c.role.new.names (c.in_ok-next.ensures (λ r. k (r ∷ []))).grows
+
+pub returns-in_err-next : goal.returns-in_err-next
+returns-in_err-next c =
+    exit_by (Appends (λ k. role_then (λ r. k (r ∷ []))) (here c.args.at.now c.args.prefixes.now c.args.names.now)
+    (here c.role.new.at c.args.prefixes.now c.role.new.names) c.args.roles.now c.args.roles.now)
+    c.from_residual.result c.in_err-next.field-0.0 c.from_residual.ensures.1
+    (λ k. c.in_err-next.ensures (λ r. k (r ∷ [])))

@@ -1,7 +1,8 @@
-use Rattle.std.proofs.Common.{Some, None, sym, ◌∙◌, subst}
-use Rattle.dl_owl.specs.NamesNext.{IsIri}
+use Rattle.std.proofs.Common.{Some, None, if◌then◌else◌, sym, ◌∙◌, subst}
+use Rattle.std.specs.Str.{bytes_eq}
+use Rattle.dl_owl.specs.NamesNext.{owl_thing, may_be_class, IsIri}
 use Rattle.dl_owl.specs.Expected.{goes, refuses}
-use Rattle.dl_owl.specs.Steps.{class_or_thing}
+use Rattle.dl_owl.specs.Steps.{name_next, class_or_thing}
 use Rattle.dl_owl.specs.Walk.{here, symbol_at}
 use Rattle.dl_owl.proofs.TakenLemmas.{exit_follows, passed, passed_faults}
 use Rattle.dl_owl.proofs.ReaderLemmas.{class_thing, class_other}
@@ -64,3 +65,14 @@ returns c =
     (is
     ∙ class_other p (symbol_at c.args.at.now) text iri (goes (k None)) (λ n. k (Some n)) (refuses cause)
     (sym c.is_thing.ensures ∙ c.if-is_thing.false))
+
+pub returns-in_err-expect_iri : goal.returns-in_err-expect_iri
+returns-in_err-expect_iri c =
+    λ cause same.
+    let p = c.args.prefixes.now in
+    exit_follows (λ k. class_or_thing p (goes (k None)) (λ n. k (Some n)) (refuses cause) (symbol_at c.args.at.now))
+    (here c.args.at.now p c.args.names.now) (here c.args.at.now p c.args.names.now) c.from_residual.result
+    c.in_err-expect_iri.field-0.0 c.from_residual.ensures.1
+    (λ e k is.
+    c.in_err-expect_iri.ensures c.args.names.now e
+    (λ t. if bytes_eq owl_thing t then goes (k None) else name_next may_be_class t (λ n. k (Some n))) cause same is)

@@ -2,6 +2,8 @@ use Rattle.std.proofs.Common.{string_bytes, sym, ap, ◌∙◌, subst}
 use Rattle.dl_owl.specs.declared.fault.OwlFault.TheVariants as fault
 use Rattle.dl_owl.specs.Walk.{here, symbol_at, Faults, found_move}
 use Rattle.dl_owl.proofs.TakenLemmas.{found_iri, found_unknown, found_other}
+use Rattle.dl_names.proofs.NameListLemmas.{Extends-same}
+use Rattle.dl_owl.proofs.WalkLemmas.{no_memory}
 use Rattle.dl_owl.proofs.name.expect_iri.Goals as goal
 
 pub returns-in-Iri : goal.returns-in-Iri
@@ -12,7 +14,7 @@ returns-in-Iri c =
 pub returns-in-Unknown : goal.returns-in-Unknown
 returns-in-Unknown c =
     λ names e k cause same is.
-    subst (λ n. Faults e (here c.args.at.now c.args.prefixes.now names) (fault.PrefixUnknown n)) (sym c.start-start.ensures)
+    subst (λ n. Faults e (here c.args.at.now c.args.prefixes.now names) names (fault.PrefixUnknown n)) (sym c.start-start.ensures)
     (found_unknown c.args.at.now c.args.prefixes.now names e k cause is
     (λ l other. c.in-Ok.ensures l other ∙ ap (λ f. found_move f (string_bytes c.find_iri.new.text) l other) c.in-Unknown.is))
 
@@ -21,3 +23,8 @@ returns-in-Other c =
     λ names e k cause same is.
     found_other c.args.at.now c.args.prefixes.now names e k cause is c.args.other same
     (λ l other. c.in-Ok.ensures l other ∙ ap (λ f. found_move f (string_bytes c.find_iri.new.text) l other) c.in-Other.is)
+
+pub returns-in_default : goal.returns-in_default
+returns-in_default c =
+    λ names e k cause is same.
+    no_memory e (here c.args.at.now c.args.prefixes.now names) names (Extends-same names)

@@ -12,7 +12,7 @@ use Rattle.dl_owl.proofs.name.take_free.Goals as goal
 pub returns-then-not-is_free : goal.returns-then-not-is_free
 returns-then-not-is_free c =
     λ p iri e k is.
-    subst (λ n. Faults e (here c.args.at.now p c.args.names.now) (fault.Reserved n)) (sym c.start-start.ensures)
+    subst (λ n. Faults e (here c.args.at.now p c.args.names.now) c.args.names.now (fault.Reserved n)) (sym c.start-start.ensures)
     (faults-refused e c.args.at.now p c.args.names.now reserved
     (is ∙ ap (λ b. if b then takes_name c.args.text.now k else refuses reserved) (sym c.is_free.ensures ∙ c.if-not-is_free.true)))
 

@@ -28,7 +28,7 @@ returns-then-not-is_free c =
     let text = c.as_str-iri.result.now in
     let iri : IsIri p (symbol_at c.args.at.now) text =
     subst (IsIri p (symbol_at c.args.at.now)) (sym c.as_str-iri.ensures.value) c.in_ok-expect_iri.ensures in
-    subst (λ n. Faults (unnamed_then k) (here c.args.at.now p names) (fault.Reserved n)) (sym c.start-start.ensures)
+    subst (λ n. Faults (unnamed_then k) (here c.args.at.now p names) names (fault.Reserved n)) (sym c.start-start.ensures)
     (faults-refused (unnamed_then k) c.args.at.now p names reserved
     (unnamed_by p (symbol_at c.args.at.now) text iri k (refuses (refused_individual (symbol_at c.args.at.now))) false
     (sym c.is_free.ensures ∙ c.if-not-is_free.true)))

@@ -14,7 +14,7 @@ returns-in-End c =
 pub returns-in_default : goal.returns-in_default
 returns-in_default c =
     λ p names.
-    subst (λ n. Faults (finish c.args.document) (here c.args.at.now p names) (fault.Syntax n)) (sym
+    subst (λ n. Faults (finish c.args.document) (here c.args.at.now p names) names (fault.Syntax n)) (sym
     c.start-start.ensures)
     (faults-refused (finish c.args.document) c.args.at.now p names syntax
     (finish_refused c.args.at.now.token.kind (slice_range c.args.at.now.bytes c.args.at.now.token.start

@@ -11,13 +11,14 @@ use Rattle.dl_owl.proofs.WalkLemmas.{goes_alike, faults_alike, faults-refused}
 use Rattle.dl_owl.proofs.CursorLemmas.{not_kind}
 use Rattle.dl_owl.proofs.DocumentLemmas.{behind_then}
 use Rattle.dl_owl.proofs.OntologyLemmas.{exit_by, items_closed, items_import, items_axiom}
+use Rattle.dl_owl.proofs.WalkLemmas.{no_memory}
 use Rattle.dl_owl.proofs.ontology.items.Goals as goal
 
 pub returns-then-is_import : goal.returns-then-is_import
 returns-then-is_import c =
-    subst (λ n. Faults (items empty_document) (here c.args.at.now c.args.prefixes.now c.args.names.now)
+    subst (λ n. Faults (items empty_document) (here c.args.at.now c.args.prefixes.now c.args.names.now) c.stated.names
     (fault.LeftOut n (construct.Keyword Import))) (sym c.start-start.ensures)
-    (c.stated.invariant.faults (fault.LeftOut c.stated.at.token.start (construct.Keyword Import))
+    (c.stated.invariant.faults c.stated.names (fault.LeftOut c.stated.at.token.start (construct.Keyword Import))
     (faults-refused (items c.stated.document) c.stated.at c.args.prefixes.now c.stated.names (keyword_left_out Import)
     (items_import c.stated.at.token.kind (slice_range c.stated.at.bytes c.stated.at.token.start
     c.stated.at.token.end) c.stated.document (c.is_import.ensures.0 c.if-is_import.true))))
@@ -27,7 +28,7 @@ returns-in_err-item c =
     exit_by (Finishes (items empty_document) (here c.args.at.now c.args.prefixes.now c.args.names.now) (here
     c.axiom.new.at c.args.prefixes.now c.axiom.new.names)) c.from_residual.result c.in_err-item.field-0.0
     c.from_residual.ensures.1
-    (c.stated.invariant.faults c.in_err-item.field-0.0
+    (c.stated.invariant.faults c.axiom.new.names c.in_err-item.field-0.0
     (c.in_err-item.ensures (items c.stated.document) (λ i. items (with_item c.stated.document i))
     (items_axiom c.stated.at.token.kind (slice_range c.stated.at.bytes c.stated.at.token.start c.stated.at.token.end)
     c.stated.document (not_kind c.is_close.result _ c.is_close.ensures c.stated-test.true)
@@ -62,7 +63,7 @@ returns-in_err-close c =
     exit_by (Finishes (items empty_document) (here c.args.at.now c.args.prefixes.now c.args.names.now) (here
     c.close.new.at c.args.prefixes.now c.stated.names)) c.from_residual-in_err-close.result c.in_err-close.field-0.0
     c.from_residual-in_err-close.ensures.1
-    (c.stated.invariant.faults c.in_err-close.field-0.0
+    (c.stated.invariant.faults c.stated.names c.in_err-close.field-0.0
     (faults_alike (items c.stated.document) (close_then (finish c.stated.document)) (here c.stated.at
     c.args.prefixes.now c.stated.names) c.in_err-close.field-0.0
     (items_closed c.stated.at.token.kind (slice_range c.stated.at.bytes c.stated.at.token.start
@@ -78,3 +79,12 @@ returns c =
     (items_closed c.stated.at.token.kind (slice_range c.stated.at.bytes c.stated.at.token.start
     c.stated.at.token.end) c.args.prefixes.now c.stated.document (c.is_close.ensures.0 c.stated-test.false))
     (c.in_ok-close.ensures c.args.prefixes.now c.stated.names (finish c.stated.document)))
+
+pub returns-in_default : goal.returns-in_default
+returns-in_default c =
+    c.stated.invariant.faults c.axiom.new.names fault.NoMemory
+    (no_memory (items c.stated.document) (here c.stated.at c.args.prefixes.now c.stated.names) c.axiom.new.names
+    (c.in_ok-item.ensures (items c.stated.document) (λ i. items (with_item c.stated.document i))
+    (items_axiom c.stated.at.token.kind (slice_range c.stated.at.bytes c.stated.at.token.start c.stated.at.token.end)
+    c.stated.document (not_kind c.is_close.result _ c.is_close.ensures c.stated-test.true)
+    (not_kind c.is_import.result _ c.is_import.ensures c.if-is_import.false))).grows)

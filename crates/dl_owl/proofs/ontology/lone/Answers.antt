@@ -5,13 +5,15 @@ use Rattle.dl_owl.specs.Items.{empty_document, with_item}
 use Rattle.dl_owl.specs.Prefixes.{predefined}
 use Rattle.dl_owl.specs.Walk.{here, Goes, Faults}
 use Rattle.dl_owl.proofs.OntologyLemmas.{exit_by, ends_behind}
+use Rattle.dl_names.proofs.NameListLemmas.{Extends-same}
+use Rattle.dl_owl.proofs.WalkLemmas.{no_memory}
 use Rattle.dl_owl.proofs.ontology.lone.Goals as goal
 
 pub returns-in_err-item : goal.returns-in_err-item
 returns-in_err-item c =
     exit_by (Ends lone_axiom (here c.args.at.now predefined c.args.names.now) c.axiom.new.names)
     c.from_residual.result c.in_err-item.field-0.0 c.from_residual.ensures.1
-    (subst (λ q. Faults lone_axiom (here c.args.at.now q c.args.names.now) c.in_err-item.field-0.0) c.in-Ok.ensures
+    (subst (λ q. Faults lone_axiom (here c.args.at.now q c.args.names.now) c.axiom.new.names c.in_err-item.field-0.0) c.in-Ok.ensures
     (c.in_err-item.ensures lone_axiom (λ i. finish (with_item empty_document i)) refl))
 
 pub returns : goal.returns
@@ -25,3 +27,13 @@ returns c =
     c.in_ok-item.item)) (here c.axiom.new.at q c.axiom.new.names)) c.in-Ok.ensures
     (c.in_ok-item.ensures lone_axiom (λ i. finish (with_item empty_document i)) refl)))
     (c.end.ensures predefined c.axiom.new.names)
+
+pub returns-in_default : goal.returns-in_default
+returns-in_default c =
+    no_memory lone_axiom (here c.args.at.now predefined c.args.names.now) c.args.names.now (Extends-same
+    c.args.names.now)
+
+pub returns-in_default-add : goal.returns-in_default-add
+returns-in_default-add c =
+    no_memory lone_axiom (here c.args.at.now predefined c.args.names.now) c.axiom.new.names
+    (c.in_ok-item.ensures lone_axiom (λ i. finish (with_item empty_document i)) refl).grows

@@ -6,6 +6,8 @@ use Rattle.dl_owl.specs.Prefixes.{predefined}
 use Rattle.dl_owl.specs.Walk.{here, Goes}
 use Rattle.dl_owl.proofs.WalkLemmas.{goes-then, goes-faults}
 use Rattle.dl_owl.proofs.OntologyLemmas.{exit_by, ends_behind}
+use Rattle.dl_names.proofs.NameListLemmas.{Extends-same}
+use Rattle.dl_owl.proofs.WalkLemmas.{no_memory}
 use Rattle.dl_owl.proofs.ontology.whole.Goals as goal
 
 pub returns-in_err-head : goal.returns-in_err-head
@@ -47,3 +49,8 @@ returns c =
     (c.in_ok-head.ensures c.args.names.now))
     c.in_ok-document.ensures)
     (c.end.ensures c.prologue.new.prefixes c.items.new.names)
+
+pub returns-in_default : goal.returns-in_default
+returns-in_default c =
+    no_memory prologue (here c.args.at.now predefined c.args.names.now) c.args.names.now (Extends-same
+    c.args.names.now)

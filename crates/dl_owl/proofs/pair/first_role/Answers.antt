@@ -16,7 +16,7 @@ returns-then-is_chain c =
     λ k.
     subst
     (λ n.
-    Faults (first_role k) (here c.args.at.now c.args.prefixes.now c.args.names.now)
+    Faults (first_role k) (here c.args.at.now c.args.prefixes.now c.args.names.now) c.args.names.now
     (fault.NotQl n (construct.Keyword ObjectPropertyChain)))
     (sym c.start-start.ensures)
     (faults-refused (first_role k) c.args.at.now c.args.prefixes.now c.args.names.now (not_ql ObjectPropertyChain)

@@ -22,7 +22,7 @@ returns-in_err-open c =
 pub returns-in_default : goal.returns-in_default
 returns-in_default c =
     λ names.
-    subst (λ n. Faults (open_then prefix_name) (here c.args.at.now c.args.prefixes.now names) (fault.Syntax n)) (sym
+    subst (λ n. Faults (open_then prefix_name) (here c.args.at.now c.args.prefixes.now names) names (fault.Syntax n)) (sym
     c.start-start.ensures)
     (goes-faults (open_then prefix_name) (here c.args.at.now c.args.prefixes.now names) prefix_name (here
     c.open.new.at c.args.prefixes.now names) (fault.Syntax c.open.new.at.token.start)
@@ -44,7 +44,7 @@ returns-in_err-advance c =
 pub returns-then-not-is_equals : goal.returns-then-not-is_equals
 returns-then-not-is_equals c =
     λ names.
-    subst (λ n. Faults (open_then prefix_name) (here c.args.at.now c.args.prefixes.now names) (fault.Syntax n)) (sym
+    subst (λ n. Faults (open_then prefix_name) (here c.args.at.now c.args.prefixes.now names) names (fault.Syntax n)) (sym
     c.start-behind.ensures)
     (goes-faults (open_then prefix_name) (here c.args.at.now c.args.prefixes.now names) (prefix_equals
     c.in-Some.name.now) (here c.advance.new.self c.args.prefixes.now names) (fault.Syntax

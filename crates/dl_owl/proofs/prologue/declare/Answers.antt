@@ -10,12 +10,14 @@ use Rattle.dl_owl.proofs.WalkLemmas.{faults-refused}
 use Rattle.dl_owl.proofs.CursorLemmas.{not_kind}
 use Rattle.dl_owl.proofs.DocumentLemmas.{exit_leads, iri_plain, plain-goes, plain-faults, declares-goes, declares-faults}
 use Rattle.dl_owl.proofs.PrologueLemmas.{iri_refused, iri_symbol}
+use Rattle.dl_names.proofs.NameListLemmas.{Extends-same}
+use Rattle.dl_owl.proofs.WalkLemmas.{no_memory}
 use Rattle.dl_owl.proofs.prologue.declare.Goals as goal
 
 pub returns-then-not-is_full_iri : goal.returns-then-not-is_full_iri
 returns-then-not-is_full_iri c =
     λ names.
-    subst (λ n. Faults (prefix_iri c.args.name.now) (here c.args.at.now c.args.prefixes.now names) (fault.Syntax n))
+    subst (λ n. Faults (prefix_iri c.args.name.now) (here c.args.at.now c.args.prefixes.now names) names (fault.Syntax n))
     (sym c.start-start.ensures)
     (faults-refused (prefix_iri c.args.name.now) c.args.at.now c.args.prefixes.now names syntax
     (iri_refused c.args.at.now.token.kind (slice_range c.args.at.now.bytes c.args.at.now.token.start
@@ -52,7 +54,7 @@ returns-in_err-advance-in-New c =
 pub returns-in-Differs : goal.returns-in-Differs
 returns-in-Differs c =
     λ names.
-    subst (λ n. Faults (prefix_iri c.args.name.now) (here c.args.at.now c.args.prefixes.now names) (fault.Syntax n))
+    subst (λ n. Faults (prefix_iri c.args.name.now) (here c.args.at.now c.args.prefixes.now names) names (fault.Syntax n))
     (sym c.start-start.ensures)
     (faults-refused (prefix_iri c.args.name.now) c.args.at.now c.args.prefixes.now names syntax
     (ap (prefix_iri_next c.args.prefixes.now c.args.name.now) (iri_symbol c.args.at.now c.full_iri-iri.result.now
@@ -81,3 +83,8 @@ returns-in-Ok c =
     (c.is_full_iri.ensures.0 c.if-not-is_full_iri.false) c.full_iri-iri.ensures)
     ∙ c.knowledge.ensures.fits ∙ ap (λ w. known_move w c.args.name.now c.full_iri-iri.result.now) c.in-New.is)
     c.advance-in-New.new.self c.in_ok-advance-in-New.ensures)
+
+pub returns-in_default : goal.returns-in_default
+returns-in_default c =
+    λ names.
+    no_memory (prefix_iri c.args.name.now) (here c.args.at.now c.args.prefixes.now names) names (Extends-same names)

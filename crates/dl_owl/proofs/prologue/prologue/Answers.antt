@@ -20,7 +20,7 @@ returns-in_err-advance c =
     λ names.
     exit_leads prologue (open_then (title 2)) (here c.args.at.now c.args.prefixes.now names) (here c.advance.new.self
     c.loop-at.prefixes names) c.from_residual.result c.in_err-advance.field-0.0 c.from_residual.ensures.1
-    ((c.loop-at.invariant names).faults c.in_err-advance.field-0.0
+    ((c.loop-at.invariant names).faults names c.in_err-advance.field-0.0
     (keyword-faults Prefix prologue (open_then prefix_name) c.loop-at.at c.loop-at.prefixes names
     (c.is_prefix.ensures.0 c.loop-at-test.true) refl c.in_err-advance.field-0.0 c.in_err-advance.ensures))
 
@@ -30,7 +30,7 @@ returns-in_err-declaration c =
     exit_leads prologue (open_then (title 2)) (here c.args.at.now c.args.prefixes.now names) (here
     c.declaration.new.at c.declaration.new.prefixes names) c.from_residual-in_err-declaration.result
     c.in_err-declaration.field-0.0 c.from_residual-in_err-declaration.ensures.1
-    ((c.loop-at.invariant names).faults c.in_err-declaration.field-0.0
+    ((c.loop-at.invariant names).faults names c.in_err-declaration.field-0.0
     (goes-faults prologue (here c.loop-at.at c.loop-at.prefixes names) (open_then prefix_name) (here
     c.advance.new.self c.loop-at.prefixes names) c.in_err-declaration.field-0.0
     (keyword-goes Prefix prologue (open_then prefix_name) c.loop-at.at c.loop-at.prefixes names
@@ -63,9 +63,9 @@ loop-at-preserved c =
 pub returns-then-not-is_ontology : goal.returns-then-not-is_ontology
 returns-then-not-is_ontology c =
     λ names.
-    subst (λ n. Faults prologue (here c.args.at.now c.args.prefixes.now names) (fault.Syntax n)) (sym
+    subst (λ n. Faults prologue (here c.args.at.now c.args.prefixes.now names) names (fault.Syntax n)) (sym
     c.start-start.ensures)
-    ((c.loop-at.invariant names).faults (fault.Syntax c.loop-at.at.token.start)
+    ((c.loop-at.invariant names).faults names (fault.Syntax c.loop-at.at.token.start)
     (faults-refused prologue c.loop-at.at c.loop-at.prefixes names syntax
     (prologue_refused c.loop-at.at.token.kind (slice_range c.loop-at.at.bytes c.loop-at.at.token.start
     c.loop-at.at.token.end) (not_kind c.is_prefix.result _ c.is_prefix.ensures c.loop-at-test.false)
@@ -77,7 +77,7 @@ returns-in_err-advance-2 c =
     exit_leads prologue (open_then (title 2)) (here c.args.at.now c.args.prefixes.now names) (here
     c.advance-2.new.self c.loop-at.prefixes names) c.from_residual-in_err-advance-2.result
     c.in_err-advance-2.field-0.0 c.from_residual-in_err-advance-2.ensures.1
-    ((c.loop-at.invariant names).faults c.in_err-advance-2.field-0.0
+    ((c.loop-at.invariant names).faults names c.in_err-advance-2.field-0.0
     (keyword-faults Ontology prologue (open_then (title 2)) c.loop-at.at c.loop-at.prefixes names
     (c.is_ontology.ensures.0 c.if-not-is_ontology.false) refl c.in_err-advance-2.field-0.0
     c.in_err-advance-2.ensures))

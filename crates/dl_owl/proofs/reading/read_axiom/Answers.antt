@@ -1,3 +1,4 @@
+use Rattle.dl_names.proofs.NameListLemmas.{Extends-same}
 use Rattle.dl_owl.specs.Expected.{lone_axiom}
 use Rattle.dl_owl.proofs.PlaceLemmas.{axiom_places}
 use Rattle.dl_owl.proofs.ReadBack.{lone_axiom_in, axioms_plain}
@@ -53,3 +54,6 @@ returns-in-Ok-clause-no_fillers c =
 pub returns-in-Err-clause-fault : goal.returns-in-Err-clause-fault
 returns-in-Err-clause-fault c =
     λ some. none_first c.args.bytes.now lone_axiom c.args.names.now c.in-Err.fault c.in-Err.ensures.none
+
+pub returns-in-Err-clause-grows : goal.returns-in-Err-clause-grows
+returns-in-Err-clause-grows c = Extends-same c.args.names.now

@@ -3,6 +3,7 @@ use Rattle.dl_owl.specs.Expected.{sup_then}
 use Rattle.dl_owl.specs.Walk.{here}
 use Rattle.dl_owl.specs.Series.{Appends}
 use Rattle.dl_owl.proofs.SeriesLemmas.{exit_by}
+use Rattle.dl_owl.proofs.WalkLemmas.{no_memory}
 use Rattle.dl_owl.proofs.right.add_part.Goals as goal
 
 pub returns-in_err-next : goal.returns-in_err-next
@@ -14,3 +15,9 @@ returns-in_err-next c =
 
 pub returns : goal.returns
 returns c = λ not. (c.in_ok-next.next ∷ [], c.in-Ok.ensures.ok, c.in_ok-next.ensures not)
+
+pub returns-in_default : goal.returns-in_default
+returns-in_default c =
+    λ not k.
+    no_memory (sup_then k) (here c.args.at.now c.args.prefixes.now c.args.names.now) c.part.new.names
+    (c.in_ok-next.ensures not k).grows

@@ -67,7 +67,7 @@ returns-then-is_complement c =
 pub returns-in-Some : goal.returns-in-Some
 returns-in-Some c =
     λ not k.
-    subst (Faults (sup_then k) (here c.args.at.now c.args.prefixes.now c.args.names.now))
+    subst (Faults (sup_then k) (here c.args.at.now c.args.prefixes.now c.args.names.now) c.args.names.now)
     (sym (c.refused_sup.ensures ∙ ap (fault_of (refused_sup c.in-Some.word)) c.start-start.ensures))
     (faults-refused (sup_then k) c.args.at.now c.args.prefixes.now c.args.names.now (refused_sup c.in-Some.word)
     (sup_refused c.args.at.now.token.kind c.in-Some.word
