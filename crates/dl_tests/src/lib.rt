@@ -39,6 +39,8 @@ mod owl_faults;
 #[cfg(test)]
 mod owl_refused;
 #[cfg(test)]
+mod owl_rows;
+#[cfg(test)]
 mod query;
 #[cfg(test)]
 mod reach;

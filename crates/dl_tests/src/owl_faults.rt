@@ -193,11 +193,11 @@ fn repeated(
     Ok(whole)
 }
 
-/// Whether the annotations of an ontology, so many inside one another, open too many parentheses at the last one.
-fn is_too_deep(alloc: Global, count: u32) -> Result<bool, AllocError> {
-    let up_to = repeated(alloc, "Ontology(", "Annotation(", count, "Annotation")?;
+/// Whether the annotations of an ontology, so many inside one another, are refused so at a parenthesis behind this word.
+fn stops_at_open(alloc: Global, count: u32, word: &str, told: Told) -> Result<bool, AllocError> {
+    let up_to = repeated(alloc, "Ontology(", "Annotation(", count, word)?;
     let text = format!(in alloc; "{up_to}(<p> <v>)")?;
-    Ok(comes_to(alloc, text.as_str(), fault_at(Told::TooDeep, up_to.len())))
+    Ok(comes_to(alloc, text.as_str(), fault_at(told, up_to.len())))
 }
 
 /// Whether so many annotations inside one another are read.
@@ -211,8 +211,10 @@ fn is_deep(alloc: Global, count: u32) -> Result<bool, AllocError> {
 #[test]
 fn parentheses_are_counted(rt: HostRuntime) -> Result<(), Fail> {
     assert!(rt; is_deep(rt.alloc(), 63)?);
-    assert!(rt; is_too_deep(rt.alloc(), 63)?);
-    assert!(rt; !is_too_deep(rt.alloc(), 62)?);
+    assert!(rt; stops_at_open(rt.alloc(), 63, "Annotation", Told::TooDeep)?);
+    assert!(rt; !stops_at_open(rt.alloc(), 62, "Annotation", Told::TooDeep)?);
+    // One that no rule has there is Syntax first.
+    assert!(rt; stops_at_open(rt.alloc(), 63, "", Told::Syntax)?);
     Ok(())
 }
 
