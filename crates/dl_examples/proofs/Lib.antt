@@ -5,3 +5,4 @@ mod NegativeExampleLemmas
 mod QueryExampleLemmas
 mod ReplyExampleLemmas
 mod FoldExampleLemmas
+mod NumberExampleLemmas

@@ -1,6 +1,7 @@
-// What the definitions of `dl_terms` and `dl_tree` give on small ontologies and queries, worked out. Nothing stands on
-// this crate.
+// What the definitions of `dl_terms`, `dl_tree` and `dl_numbers` give on small ontologies and queries, worked out.
+// Nothing stands on this crate.
 #![tactic(auto)]
 
 pub mod examples;
 pub mod folds;
+pub mod numbers;
