@@ -1,0 +1,4 @@
+pub mod FactLemmas
+pub mod BelowLemmas
+pub mod ReadLemmas
+pub mod EpochLemmas

@@ -1,0 +1,108 @@
+// A scan of shards for what is asked at a version.
+ghost use Rattle.std.specs.Prelude.{◌≡◌, [], map, IfOk, OnOk};
+ghost use Rattle.dl_terms.specs.Sets.{IsSetOf};
+ghost use Rattle.dl_epoch.specs.Covering.{kept, epoch_in, AreEntries};
+ghost use Rattle.dl_scan.specs.Pairs.{IsPairBelow, visible_facts, pair_cmp};
+ghost use Rattle.dl_scan.specs.Scans.{scan, Gains, Takes};
+
+use crate::reading::push_ranges;
+use dl_epoch::{Entry, Epochs};
+use dl_hier::Below;
+use dl_row::PlainShard;
+use dl_terms::{List, NoMemory, Pair, Steps, set_of};
+use std::alloc::Global;
+use std::marker::Model;
+use std::sync::ledger::Ledger;
+
+/// The predicates that are asked for, and the pairs of the facts of those rows that were taken so far. Contracts see it
+/// as what is asked, the version, and the pairs.
+#[derive(Drop)]
+pub struct AtomScan {
+    below: Below,
+    version: u32,
+    pairs: List<Pair>,
+}
+
+impl Model for AtomScan {
+    ghost use Rattle.dl_scan.specs.Scans.{Scan};
+
+    ghost Value = { Scan };
+
+    ghost use Rattle.dl_scan.specs.Scans.{scan};
+
+    ghost view = { λ s. scan s.below s.version s.pairs };
+}
+
+impl AtomScan {
+    /// A scan for what is asked at a version, with no row taken. It takes no memory.
+    pub fn new(alloc: Global, below: Below, version: u32) -> AtomScan
+        ensures { result ≡ scan below version [] }
+    {
+        AtomScan {
+            below,
+            version,
+            pairs: List::new(alloc),
+        }
+    }
+
+    /// Adds the pairs, below what is asked, of the facts of those rows of a shard that are visible at the version. Each
+    /// row stands for the fact that its own epoch gives it, by its id and the row's number, whichever of these epochs
+    /// it carries, and a row that none of them gives a fact is passed over. It fails only for want of memory; then
+    /// the scan is only to be dropped.
+    pub fn take<L: Ledger>(
+        &mut self,
+        alloc: Global,
+        epochs: &Epochs,
+        shard: &PlainShard,
+        steps: &mut Steps<L>,
+    ) -> Result<(), NoMemory>
+        ensures { OnOk result (Takes (map epoch_in epochs.now) shard.now self.old self.new) }
+    {
+        let entries = epochs.entries();
+        push_epochs(
+            alloc,
+            entries,
+            shard,
+            &self.below,
+            self.version,
+            &mut self.pairs,
+            steps,
+        )
+    }
+
+    /// The pairs, sorted, each once. It takes no memory.
+    pub fn finish(self) -> Result<List<Pair>, NoMemory>
+        ensures { IfOk result (λ pairs. IsSetOf pair_cmp pairs self.pairs) }
+    {
+        Ok(set_of(self.pairs))
+    }
+}
+
+/// Adds the pairs of the visible rows that epochs have below what is asked: the rows of each by its own intervals.
+fn push_epochs<L: Ledger>(
+    alloc: Global,
+    entries: &[Entry],
+    shard: &PlainShard,
+    below: &Below,
+    version: u32,
+    pairs: &mut List<Pair>,
+    steps: &mut Steps<L>,
+) -> Result<(), NoMemory>
+    requires { AreEntries (map kept entries.now) }
+    ensures { OnOk result (Gains pairs.old pairs.new
+        (IsPairBelow (visible_facts (map epoch_in (map kept entries.now)) version shard.now) below.now)) }
+{
+    for entry in entries {
+        let ranges = entry.epoch.translate(alloc, below)?;
+        push_ranges(
+            alloc,
+            shard,
+            entry.epoch.id(),
+            &ranges,
+            version,
+            pairs,
+            steps,
+        )?;
+    }
+    Ok(())
+}
