@@ -45,7 +45,7 @@ pub fn join(
     }
     let made = kept_lists(alloc, probes, lists)?;
     let needs = needs_of(alloc, probes, lists, made.as_slice())?;
-    let order = order_of(alloc, needs.as_slice())?;
+    let order = order_of(alloc, needs.as_slice(), head)?;
     let turned = turned_lists(alloc, order.as_slice(), needs.as_slice())?;
     let fitted = fitted_needs(alloc, order.as_slice(), needs.as_slice(), turned.as_slice())?;
     let mut spare = Vec::new(alloc);

@@ -1,20 +1,24 @@
-// The order of the variables: connected to those before, the smallest list first, ties by number.
+// The order of the variables: connected to those before, those of the head first, the smallest list first, ties by
+// number.
 ghost use Rattle.std.specs.Prelude.{◌≡◌, ℕ, ◌<◌, ◌↔◌, length, IfOk, OnOk, IsTrue};
 ghost use Rattle.std.specs.List.{Contains};
 ghost use Rattle.dl_join.specs.Probing.{OrdersAll, AddsVariables, is_first};
 
 use crate::need::Need;
+use dl_terms::{Pair, Term};
 use std::alloc::{AllocError, Global};
 
 /// The variables of needs in the order of the search: of those that a need joins with one before, or of all where
-/// there is none, the one whose smallest list is the smallest, and of those the one with the least number.
-pub fn order_of(alloc: Global, needs: &[Need<'_>]) -> Result<Vec<u8>, AllocError>
+/// there is none, one of the head where there is one, of these the one whose smallest list is the smallest (lengths
+/// with the same power of two below them are alike), and of these the one with the least number. A variable of the head that came behind another one would be found again for
+/// each name of that, and not only for each tuple.
+pub fn order_of(alloc: Global, needs: &[Need<'_>], head: &[Term]) -> Result<Vec<u8>, AllocError>
     ensures { IfOk result (λ order. OrdersAll order.items needs.now) }
 {
     let mut waiting = variables_of(alloc, needs)?;
     let mut order = Vec::new(alloc);
     while !waiting.is_empty() {
-        let place = place_of_next(needs, order.as_slice(), waiting.as_slice());
+        let place = place_of_next(needs, head, order.as_slice(), waiting.as_slice());
         let var = waiting.swap_remove(place);
         add(&mut order, var)?;
     }
@@ -66,14 +70,14 @@ fn push_variables(vars: &mut Vec<u8>, need: &Need<'_>) -> Result<(), AllocError>
 }
 
 /// Where the variable stands that comes next.
-fn place_of_next(needs: &[Need<'_>], before: &[u8], waiting: &[u8]) -> usize
+fn place_of_next(needs: &[Need<'_>], head: &[Term], before: &[u8], waiting: &[u8]) -> usize
     requires { 0 < length waiting.now }
     ensures { result < length waiting.now }
 {
     let mut place = 0;
-    let mut least = rank(needs, before, waiting[0]);
+    let mut least = rank(needs, head, before, waiting[0]);
     for (i, var) in waiting.iter().enumerate() {
-        let other = rank(needs, before, *var);
+        let other = rank(needs, head, before, *var);
         if other < least {
             place = i;
             least = other;
@@ -82,11 +86,11 @@ fn place_of_next(needs: &[Need<'_>], before: &[u8], waiting: &[u8]) -> usize
     place
 }
 
-/// What is smaller comes first: whether no need joins the variable with one before, the length of its smallest
-/// list, and its number.
-fn rank(needs: &[Need<'_>], before: &[u8], var: u8) -> (bool, usize, u8) {
+/// What is smaller comes first: whether no need joins the variable with one before, whether it isn't in the head, the
+/// size of its smallest list, and its number.
+fn rank(needs: &[Need<'_>], head: &[Term], before: &[u8], var: u8) -> (bool, bool, u32, u8) {
     let mut apart = true;
-    let mut size = usize::MAX;
+    let mut size = u32::MAX;
     for need in needs {
         let neighbour = if need.at == var {
             need.other
@@ -95,12 +99,29 @@ fn rank(needs: &[Need<'_>], before: &[u8], var: u8) -> (bool, usize, u8) {
         } else {
             continue;
         };
-        size = size.min(need.pairs.len());
+        size = size.min(bits(need.pairs));
         if neighbour.is_some_and(|other| has(before, other)) {
             apart = false;
         }
     }
-    (apart, size, var)
+    (apart, !names(head, var), size, var)
+}
+
+/// How many bits the length of a list has.
+fn bits(pairs: &[Pair]) -> u32 {
+    64u32.saturating_sub((pairs.len() as u64).leading_zeros())
+}
+
+/// True where a head has a variable.
+fn names(head: &[Term], var: u8) -> bool {
+    for term in head {
+        if let Term::Var(v) = *term {
+            if v == var {
+                return true;
+            }
+        }
+    }
+    false
 }
 
 /// True where, of two variables, an order has the first one first.
