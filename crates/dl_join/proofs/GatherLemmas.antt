@@ -1,20 +1,21 @@
 -- What gathering a tuple changes, and where there are more than the limit.
-use Rattle.std.proofs.Common.{◌≡◌, ℕ, ◌-◌, ◌<◌, ◌≤◌, ◌⊎◌, inl, inr, List, [], ◌∷◌, ◌++◌, length, get_or, refl, sym, ap, subst, ◌∙◌, arith}
+use Rattle.std.proofs.Common.{◌≡◌, ℕ, ◌+◌, ◌-◌, ◌<◌, ◌≤◌, ◌⊎◌, inl, inr, List, [], ◌∷◌, ◌++◌, length, take, get_or, refl, sym, ap, subst, ◌∙◌, arith}
 use Rattle.std.specs.declared.cmp.Ordering.{Ordering}
 use Rattle.std.specs.declared.cmp.Ordering.TheVariants.{Less, Equal, Greater}
 use Rattle.std.specs.Ordering.{ordering_reverse}
 use Rattle.std.specs.Prelude.{Result, Ok, Err, OnOk}
 use Rattle.dl_join.specs.declared.fault.JoinFault.{JoinFault}
-use Rattle.std.specs.List.{Contains}
+use Rattle.std.specs.List.{All, Contains}
 use Rattle.std.proofs.lemmas.Bool.{cases_eq}
-use Rattle.std.proofs.lemmas.List.{get_or_default, length_push}
-use Rattle.std.proofs.lemmas.List.Elements.{All-nil, All-push, All-weaker, All-contains_itself, Contains-append_left, Contains-push, Contains-push_cases}
+use Rattle.std.proofs.lemmas.List.{get_or_default, length_push, take_more}
+use Rattle.std.proofs.lemmas.List.Elements.{All-nil, All-push, All-contains, All-weaker, All-contains_itself, Contains-append_left, Contains-push, Contains-push_cases}
 use Rattle.dl_terms.specs.Answers.{AscendStrictly}
 use Rattle.dl_terms.specs.Sets.{IsSetOf}
 use Rattle.dl_join.specs.declared.gather.Gathered.{Gathered}
 use Rattle.dl_join.specs.Tuples.{AreExactly, AreMoreThan, tuple_cmp, ComparesLast, AllBefore}
 use Rattle.dl_join.specs.Gathering.{Has, IsGathered, Gathers}
 use Rattle.dl_join.proofs.MergeLemmas.{tuples_linear, sorted_at, sorted_push}
+use Rattle.dl_join.proofs.PairLemmas.{in_take}
 
 pub AreMoreThan-weaker : (limit : ℕ) (P Q : List ℕ → Type 0) → ((t : List ℕ) → P t → Q t) → AreMoreThan limit P → AreMoreThan limit Q
 AreMoreThan-weaker limit P Q f m = record {
@@ -196,3 +197,109 @@ exactly_known old new g none = record {
     λ h. elim (g.kept t h) [ inl is ↦ is | inr is ↦ absurd (let gone = rw none at is in omega (arith, gone.1)) ],
   );
 }
+
+-- ---- tuples that are added one after another
+
+-- nothing gathered yet
+pub Gathers-none : (a : Gathered) → IsGathered a → Gathers (Contains []) a a
+Gathers-none a v = record {
+  valid = v;
+  limit = refl;
+  width = refl;
+  kept = λ t h. h;
+  found = λ t c. absurd (let at = c.1 in omega (arith, at));
+  only = λ t h. inl h;
+}
+
+-- one more of a list
+pub Gathers-more : (xs : List (List ℕ)) (x : List ℕ) (a b c : Gathered) → Gathers (Contains xs) a b → Gathers (λ t. t ≡ x) b c
+    → Gathers (Contains (xs ++ x ∷ [])) a c
+Gathers-more xs x a b c g h = record {
+  valid = h.valid;
+  limit = h.limit ∙ g.limit;
+  width = h.width ∙ g.width;
+  kept = λ t w. h.kept t (g.kept t w);
+  found = λ t p. elim (Contains-push_cases xs x t p) [ inl was ↦ h.kept t (g.found t was) | inr same ↦ h.found t (sym same) ];
+  only = λ t w. elim (h.only t w) [
+    | inl was ↦ elim (g.only t was) [ inl old ↦ inl old | inr p ↦ inr (Contains-append_left xs (x ∷ []) t p) ]
+    | inr same ↦ inr (subst (λ s. Contains (xs ++ x ∷ []) s) (sym same) (Contains-push xs x))
+  ];
+}
+
+-- the fresh tuples added again as a set
+pub gathers_again_all : (a b c : Gathered) (set : List (List ℕ)) → IsSetOf tuple_cmp set a.fresh → b.known ≡ a.known → b.fresh ≡ [] → b.limit ≡ a.limit
+    → Gathers (Contains set) b c → Gathers (λ t. ⊥) a c
+gathers_again_all a b c set is known fresh limit g = record {
+  valid = g.valid;
+  limit = g.limit ∙ limit;
+  width = g.width ∙ ap (λ k. k.width) known;
+  kept = λ t h. elim h [ inl was ↦ g.kept t (inl (rw known was)) | inr was ↦ g.found t ((is.members t).1 was) ];
+  found = λ t none. absurd none;
+  only = λ t h. elim (g.only t h) [
+    | inl was ↦ elim was [ inl in_known ↦ inl (inl (rw known at in_known)) | inr in_fresh ↦ absurd (let gone = rw fresh at in_fresh in omega (arith, gone.1)) ]
+    | inr p ↦ inl (inr ((is.members t).0 p))
+  ];
+}
+
+pub over_again_all : (a b : Gathered) (set : List (List ℕ)) → IsSetOf tuple_cmp set a.fresh → b.known ≡ a.known → b.fresh ≡ [] → b.limit ≡ a.limit
+    → AreMoreThan b.limit (λ t. Has b t ⊎ Contains set t) → AreMoreThan a.limit (Has a)
+over_again_all a b set is known fresh limit m =
+    rw (← limit) (AreMoreThan-weaker b.limit (λ t. Has b t ⊎ Contains set t) (Has a) (λ t h. elim h [
+      | inl was ↦ elim was [ inl in_known ↦ inl (rw known at in_known) | inr in_fresh ↦ absurd (let gone = rw fresh at in_fresh in omega (arith, gone.1)) ]
+      | inr p ↦ inr ((is.members t).0 p)
+    ]) m)
+
+-- an empty start that is valid
+pub emptied : (a b : Gathered) → IsGathered a → b.known ≡ a.known → b.fresh ≡ [] → b.limit ≡ a.limit → IsGathered b
+emptied a b v known fresh limit = record {
+  ascending = rw known v.ascending;
+  within = rw (known, limit) v.within;
+  widths = rw fresh (All-nil _);
+}
+
+-- a set of tuples of one width has that width
+pub set_width : (a b : Gathered) (set : List (List ℕ)) → IsGathered a → IsSetOf tuple_cmp set a.fresh → b.known ≡ a.known
+    → All (λ t. length t ≡ b.known.width) set
+set_width a b set v is known = λ k d h. rw known (All-contains (λ t. length t ≡ a.known.width) a.fresh (get_or set k d) v.widths ((is.members (get_or set k d)).0 (k, h, get_or_default set k (get_or set k d) d h)))
+
+-- the front of a list with its next item
+pub front_more : (tuples : List (List ℕ)) (k : ℕ) (x item : List ℕ) → k < length tuples → x ≡ item → item ≡ get_or tuples k item
+    → take (k + 1) tuples ≡ take k tuples ++ x ∷ []
+front_more tuples k x item h same is = take_more tuples k item h ∙ ap (λ y. take k tuples ++ y ∷ []) (sym is ∙ sym same)
+
+-- what is over the limit after several tuples of a list, with the one that comes next
+pub over_more : (tuples : List (List ℕ)) (k : ℕ) (x item : List ℕ) (a b : Gathered) → k < length tuples → x ≡ item → item ≡ get_or tuples k item
+    → Gathers (Contains (take k tuples)) a b → AreMoreThan b.limit (λ t. Has b t ⊎ (t ≡ x)) → AreMoreThan a.limit (λ t. Has a t ⊎ Contains tuples t)
+over_more tuples k x item a b h same is g m =
+    rw (← g.limit) (AreMoreThan-weaker b.limit (λ t. Has b t ⊎ (t ≡ x)) (λ t. Has a t ⊎ Contains tuples t) (λ t w. elim w [
+      | inl was ↦ elim (g.only t was) [ inl old ↦ inl old | inr p ↦ inr (in_take (λ _. 0) tuples k t p) ]
+      | inr e ↦ inr (k, h, get_or_default tuples k t item h ∙ (sym is ∙ (sym same ∙ sym e)))
+    ]) m)
+
+pub ok_again_all : (a b c : Gathered) (set slice : List (List ℕ)) (r : Result (Unit {0}) JoinFault) → OnOk r (Gathers (Contains slice) b c) → slice ≡ set
+    → IsSetOf tuple_cmp set a.fresh → b.known ≡ a.known → b.fresh ≡ [] → b.limit ≡ a.limit → OnOk r (Gathers (λ t. ⊥) a c)
+ok_again_all a b c set slice (Ok u) g e is known fresh limit = gathers_again_all a b c set is known fresh limit (rw e at g)
+ok_again_all a b c set slice (Err f) g e is known fresh limit = tt
+
+-- ---- a step that gathers nothing more before one that does
+
+pub ok_after : (P : List ℕ → Type 0) (a b c : Gathered) (r : Result (Unit {0}) JoinFault) → Gathers (λ t. ⊥) a b → OnOk r (Gathers P b c) → OnOk r (Gathers P a c)
+ok_after P a b c (Ok u) g h = record {
+  valid = h.valid;
+  limit = h.limit ∙ g.limit;
+  width = h.width ∙ g.width;
+  kept = λ t w. h.kept t (g.kept t w);
+  found = h.found;
+  only = λ t w. elim (h.only t w) [
+    | inl was ↦ elim (g.only t was) [ inl old ↦ inl old | inr none ↦ absurd none ]
+    | inr p ↦ inr p
+  ];
+}
+ok_after P a b c (Err e) g h = tt
+
+pub over_after : (P : List ℕ → Type 0) (a b : Gathered) → Gathers (λ t. ⊥) a b → AreMoreThan b.limit (λ t. Has b t ⊎ P t) → AreMoreThan a.limit (λ t. Has a t ⊎ P t)
+over_after P a b g m =
+    rw (← g.limit) (AreMoreThan-weaker b.limit (λ t. Has b t ⊎ P t) (λ t. Has a t ⊎ P t) (λ t h. elim h [
+      | inl was ↦ elim (g.only t was) [ inl old ↦ inl old | inr none ↦ absurd none ]
+      | inr p ↦ inr p
+    ]) m)

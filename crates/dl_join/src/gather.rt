@@ -1,6 +1,6 @@
-// Tuples gathered in any order, and made distinct each time that they double.
+// Tuples gathered in any order, and made distinct each time that they double, or where another first name begins.
 ghost use Rattle.std.specs.Prelude.{◌≡◌, ℕ, List, [], length, map, OnOk, IfOk, ◌⊎◌, ◌≤◌, slice_index_or};
-ghost use Rattle.std.specs.List.{All};
+ghost use Rattle.std.specs.List.{All, Contains};
 ghost use Rattle.dl_terms.specs.Sets.{IsSetOf};
 ghost use Rattle.dl_join.specs.Searching.{name_or_zero};
 ghost use Rattle.dl_join.specs.Tuples.{AreExactly, AreMoreThan, tuple_cmp, ComparesLast, AllBefore};
@@ -15,7 +15,8 @@ use std::mem;
 /// How many tuples are gathered at least before they are made distinct.
 const BATCH: u64 = 4096;
 
-/// Tuples that are known to be distinct, ascending, and fresh ones in the order in which they were found.
+/// Tuples that are known to be distinct, ascending, and fresh ones in the order in which they were found. Those of one
+/// first name are made known together, as long as they come by ascending first names.
 #[derive(Drop)]
 pub struct Gathered {
     alloc: Global,
@@ -23,6 +24,7 @@ pub struct Gathered {
     known: Tuples,
     fresh: List<List<u32>>,
     last: Vec<u32>,
+    in_order: bool,
 }
 
 impl Gathered {
@@ -41,6 +43,7 @@ impl Gathered {
             known: Tuples::new(alloc, width),
             fresh: List::new(alloc),
             last: Vec::new(alloc),
+            in_order: true,
         }
     }
 
@@ -53,13 +56,62 @@ impl Gathered {
             (λ tuple. Has self.old tuple ⊎ (tuple ≡ map name_or_zero head.now)) }
     {
         let tuple = names_of(self.alloc, head)?;
+        self.begin(tuple.as_slice())?;
+        self.add_tuple(tuple.as_slice())
+    }
+
+    /// Makes the fresh tuples known where another first name begins, as long as this keeps them in order.
+    fn begin(&mut self, tuple: &[u32]) -> Result<(), JoinFault>
+        requires { IsGathered self.old }
+        ensures ok { OnOk result (Gathers (λ t. ⊥) self.old self.new) }
+        ensures many { result ≡ Err JoinFault.TooMany → AreMoreThan self.old.limit (Has self.old) }
+    {
+        if !self.in_order || !begins_behind(self.fresh.as_slice(), tuple) {
+            return Ok(());
+        }
+        self.add_again()?;
+        self.in_order = self.fresh.len() == 0;
+        Ok(())
+    }
+
+    /// Adds the fresh tuples again, in order.
+    fn add_again(&mut self) -> Result<(), JoinFault>
+        requires { IsGathered self.old }
+        ensures ok { OnOk result (Gathers (λ t. ⊥) self.old self.new) }
+        ensures many { result ≡ Err JoinFault.TooMany → AreMoreThan self.old.limit (Has self.old) }
+    {
+        let fresh = mem::replace(&mut self.fresh, List::new(self.alloc));
+        let set = set_of(fresh);
+        self.add_all(set.as_slice())
+    }
+
+    fn add_all(&mut self, tuples: &[List<u32>]) -> Result<(), JoinFault>
+        requires valid { IsGathered self.old }
+        requires widths { All (λ tuple. length tuple ≡ self.old.known.width) tuples.now }
+        ensures ok { OnOk result (Gathers (Contains tuples.now) self.old self.new) }
+        ensures many { result ≡ Err JoinFault.TooMany → AreMoreThan self.old.limit
+            (λ t. Has self.old t ⊎ Contains tuples.now t) }
+    {
+        for tuple in tuples {
+            self.add_tuple(tuple.as_slice())?;
+        }
+        Ok(())
+    }
+
+    fn add_tuple(&mut self, tuple: &[u32]) -> Result<(), JoinFault>
+        requires valid { IsGathered self.old }
+        requires width { length tuple.now ≡ self.old.known.width }
+        ensures ok { OnOk result (Gathers (λ t. t ≡ tuple.now) self.old self.new) }
+        ensures many { result ≡ Err JoinFault.TooMany → AreMoreThan self.old.limit
+            (λ t. Has self.old t ⊎ (t ≡ tuple.now)) }
+    {
         if self.fresh.len() > 0 {
             return self.add_fresh(tuple);
         }
-        match self.compare_last(tuple.as_slice())? {
+        match self.compare_last(tuple)? {
             Ordering::Less => self.add_fresh(tuple),
             Ordering::Equal => Ok(()),
-            Ordering::Greater => self.add_known(tuple.as_slice()),
+            Ordering::Greater => self.add_known(tuple),
         }
     }
 
@@ -96,14 +148,15 @@ impl Gathered {
     }
 
     /// Adds a tuple to the fresh ones, which are made known where they are as many as these.
-    fn add_fresh(&mut self, tuple: Vec<u32>) -> Result<(), JoinFault>
+    fn add_fresh(&mut self, tuple: &[u32]) -> Result<(), JoinFault>
         requires valid { IsGathered self.old }
-        requires width { length tuple.items ≡ self.old.known.width }
-        ensures ok { OnOk result (Gathers (λ t. t ≡ tuple.items) self.old self.new) }
+        requires width { length tuple.now ≡ self.old.known.width }
+        ensures ok { OnOk result (Gathers (λ t. t ≡ tuple.now) self.old self.new) }
         ensures many { result ≡ Err JoinFault.TooMany → AreMoreThan self.old.limit
-            (λ t. Has self.old t ⊎ (t ≡ tuple.items)) }
+            (λ t. Has self.old t ⊎ (t ≡ tuple.now)) }
     {
-        self.push_fresh(tuple)?;
+        let copy = copied(self.alloc, tuple)?;
+        self.push_fresh(copy)?;
         if (self.fresh.len() as u64) < self.known.len().max(BATCH) {
             return Ok(());
         }
@@ -146,6 +199,25 @@ impl Gathered {
         }
         gathered.settle()?;
         Ok(gathered.known)
+    }
+}
+
+fn copied(alloc: Global, tuple: &[u32]) -> Result<Vec<u32>, AllocError>
+    ensures { IfOk result (λ copy. copy.items ≡ tuple.now) }
+{
+    let mut copy = Vec::new(alloc);
+    copy.extend_from_slice(tuple)?;
+    Ok(copy)
+}
+
+/// True where there are tuples, and the first name of another one is behind that of the last.
+fn begins_behind(tuples: &[List<u32>], tuple: &[u32]) -> bool {
+    let Some(last) = tuples.last() else {
+        return false;
+    };
+    match tuple.first() {
+        Some(name) => last.as_slice().first().is_some_and(|other| *other < *name),
+        None => false,
     }
 }
 

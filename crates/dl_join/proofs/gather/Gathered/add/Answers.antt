@@ -1,21 +1,23 @@
-use Rattle.std.proofs.Common.{◌≡◌, map}
+use Rattle.std.proofs.Common.{◌≡◌, ◌⊎◌, inl, map}
+use Rattle.std.proofs.lemmas.Result.{err_from_is_err_and}
 use Rattle.dl_join.specs.Searching.{name_or_zero}
-use Rattle.dl_join.proofs.GatherLemmas.{ok_same, ok_from}
+use Rattle.dl_join.specs.Gathering.{Has}
+use Rattle.dl_join.proofs.GatherLemmas.{AreMoreThan-weaker, ok_same, ok_after, over_after}
 use Rattle.dl_join.proofs.gather.Gathered.add.Goals as goal
 
-pub returns-then-len-gt0-clause-ok : goal.returns-then-len-gt0-clause-ok
-returns-then-len-gt0-clause-ok c =
-    ok_same c.in_ok-tuple.tuple.items (map name_or_zero c.args.head.now) c.args.self.now c.add_fresh.new.self c.add_fresh.result c.in_ok-tuple.ensures c.add_fresh.ensures.ok
+pub returns-in_err-begin-clause-many : goal.returns-in_err-begin-clause-many
+returns-in_err-begin-clause-many c = λ e.
+    let p = err_from_is_err_and c.from_residual-in_err-begin.result c.from_residual-in_err-begin.ensures.1 in
+    AreMoreThan-weaker c.args.self.now.limit (Has c.args.self.now) (λ t. Has c.args.self.now t ⊎ (t ≡ map name_or_zero c.args.head.now)) (λ t h. inl h)
+    (c.in_err-begin.ensures.many (cc (p.1, p.2, e)))
 
-pub returns-in-Less-clause-ok : goal.returns-in-Less-clause-ok
-returns-in-Less-clause-ok c =
-    ok_from (λ t. t ≡ map name_or_zero c.args.head.now) c.args.self.now c.compare_last.new.self c.add_fresh-in-Less.new.self c.add_fresh-in-Less.result
-    c.in_ok-compare_last.ensures.known c.in_ok-compare_last.ensures.fresh c.in_ok-compare_last.ensures.limit
-    (ok_same c.in_ok-tuple.tuple.items (map name_or_zero c.args.head.now) c.compare_last.new.self c.add_fresh-in-Less.new.self c.add_fresh-in-Less.result c.in_ok-tuple.ensures c.add_fresh-in-Less.ensures.ok)
+pub returns-clause-ok : goal.returns-clause-ok
+returns-clause-ok c =
+    let is = rw c.as_slice-2.ensures.value at c.add_tuple.ensures.ok in
+    ok_after (λ t. t ≡ map name_or_zero c.args.head.now) c.args.self.now c.begin.new.self c.add_tuple.new.self c.add_tuple.result c.in_ok-begin.ensures.ok
+    (ok_same c.in_ok-tuple.tuple.items (map name_or_zero c.args.head.now) c.begin.new.self c.add_tuple.new.self c.add_tuple.result c.in_ok-tuple.ensures is)
 
-pub returns-in-Greater-clause-ok : goal.returns-in-Greater-clause-ok
-returns-in-Greater-clause-ok c =
-    ok_from (λ t. t ≡ map name_or_zero c.args.head.now) c.args.self.now c.compare_last.new.self c.add_known.new.self c.add_known.result
-    c.in_ok-compare_last.ensures.known c.in_ok-compare_last.ensures.fresh c.in_ok-compare_last.ensures.limit
-    (ok_same c.in_ok-tuple.tuple.items (map name_or_zero c.args.head.now) c.compare_last.new.self c.add_known.new.self c.add_known.result c.in_ok-tuple.ensures
-    (rw c.as_slice-in-Greater.ensures.value at c.add_known.ensures.ok))
+pub returns-clause-many : goal.returns-clause-many
+returns-clause-many c = λ e.
+    over_after (λ t. t ≡ map name_or_zero c.args.head.now) c.args.self.now c.begin.new.self c.in_ok-begin.ensures.ok
+    (rw (c.as_slice-2.ensures.value, c.in_ok-tuple.ensures) at (c.add_tuple.ensures.many e))
