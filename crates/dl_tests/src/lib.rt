@@ -21,6 +21,8 @@ mod io;
 #[cfg(test)]
 mod join;
 #[cfg(test)]
+mod join_order;
+#[cfg(test)]
 mod lex;
 #[cfg(test)]
 mod models;
