@@ -1,4 +1,4 @@
-// The order of the variables: connected to those before, those of the head first, the smallest list first, ties by
+// The order of the variables: connected to those before, the smallest list first, those of the head first, ties by
 // number.
 ghost use Rattle.std.specs.Prelude.{◌≡◌, ℕ, ◌<◌, ◌↔◌, length, IfOk, OnOk, IsTrue};
 ghost use Rattle.std.specs.List.{Contains};
@@ -9,9 +9,8 @@ use dl_terms::{Pair, Term};
 use std::alloc::{AllocError, Global};
 
 /// The variables of needs in the order of the search: of those that a need joins with one before, or of all where
-/// there is none, one of the head where there is one, of these the one whose smallest list is the smallest (lengths
-/// with the same power of two below them are alike), and of these the one with the least number. A variable of the head that came behind another one would be found again for
-/// each name of that, and not only for each tuple.
+/// there is none, those whose smallest list is the smallest (lengths with the same power of two below them are
+/// alike), of these one of the head where there is one, and of these the one with the least number.
 pub fn order_of(alloc: Global, needs: &[Need<'_>], head: &[Term]) -> Result<Vec<u8>, AllocError>
     ensures { IfOk result (λ order. OrdersAll order.items needs.now) }
 {
@@ -86,9 +85,9 @@ fn place_of_next(needs: &[Need<'_>], head: &[Term], before: &[u8], waiting: &[u8
     place
 }
 
-/// What is smaller comes first: whether no need joins the variable with one before, whether it isn't in the head, the
-/// size of its smallest list, and its number.
-fn rank(needs: &[Need<'_>], head: &[Term], before: &[u8], var: u8) -> (bool, bool, u32, u8) {
+/// What is smaller comes first: whether no need joins the variable with one before, the size of its smallest list,
+/// whether it isn't in the head, and its number.
+fn rank(needs: &[Need<'_>], head: &[Term], before: &[u8], var: u8) -> (bool, u32, bool, u8) {
     let mut apart = true;
     let mut size = u32::MAX;
     for need in needs {
@@ -104,7 +103,7 @@ fn rank(needs: &[Need<'_>], head: &[Term], before: &[u8], var: u8) -> (bool, boo
             apart = false;
         }
     }
-    (apart, !names(head, var), size, var)
+    (apart, size, !names(head, var), var)
 }
 
 /// How many bits the length of a list has.

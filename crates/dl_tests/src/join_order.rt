@@ -12,12 +12,11 @@ use std::test::Fail;
 /// How many names the lists have.
 const NAMES: u32 = 2_000;
 
-/// The pairs to and from name 0, those of each name and the next one, name 0, and a name that no pair has.
+/// The pairs to and from name 0, those of each name and the next one, and a name that no pair has.
 #[derive(Clone, Copy)]
 enum Pairs {
     Hub,
     Chain,
-    Zero,
     Past,
 }
 
@@ -38,16 +37,16 @@ const W: Term = Term::Var(5);
 
 /// A head, probes, and how many tuples they have.
 const ROWS: &[(&[Term], &[Atom], u64)] = &[
-    // The variable of the head first: back from the class the others have three names free.
+    // Of lists of like size the variable of the head first: from another one on, it is found again for all names that
+    // two or three variables of the circle have.
     (
-        &[X],
+        &[V],
         &[
             (X, Some(Y), Pairs::Hub),
             (Y, Some(Z), Pairs::Hub),
             (Z, Some(U), Pairs::Hub),
+            (U, Some(X), Pairs::Hub),
             (U, Some(V), Pairs::Hub),
-            (V, Some(W), Pairs::Hub),
-            (W, None, Pairs::Zero),
         ],
         2_000,
     ),
@@ -82,7 +81,6 @@ fn pair_at(pairs: Pairs, i: u32) -> Pair {
     match pairs {
         Pairs::Hub => { if i % 2 == 0 { (0, name) } else { (name, 0) } }
         Pairs::Chain => (name, name.saturating_add(1)),
-        Pairs::Zero => (0, 0),
         Pairs::Past => (NAMES + 1, NAMES + 1),
     }
 }
@@ -91,7 +89,6 @@ fn count_of(pairs: Pairs) -> u32 {
     match pairs {
         Pairs::Hub => 2 * NAMES,
         Pairs::Chain => 2 * NAMES,
-        Pairs::Zero => 1,
         Pairs::Past => 1,
     }
 }
