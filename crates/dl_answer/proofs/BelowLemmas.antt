@@ -22,7 +22,7 @@ use Rattle.dl_hier.specs.Hierarchy.{Hierarchy, IsHierarchyOf}
 use Rattle.dl_hier.specs.Below.{IsBelowOneOf, AreThose}
 use Rattle.dl_hier.specs.declared.below.Below.{Below}
 use Rattle.dl_answer.specs.Facts.{HasPredicate, IsPairBelow, member, plain, turned}
-use Rattle.dl_answer.specs.OverNames.{HoldsOneOf}
+use Rattle.dl_rewrite.specs.OverNames.{HoldsOneOf}
 use Rattle.dl_answer.specs.Probes.{AreBelowProbe}
 
 module _ (axioms : List Axiom) (facts : List Fact) (classes roles : List ℕ)

@@ -5,3 +5,5 @@ pub mod FactLemmas
 pub mod BelowLemmas
 pub mod StepLemmas
 pub mod HeadLemmas
+pub mod DecidedLemmas
+pub mod UnionLemmas

@@ -6,7 +6,7 @@ use Rattle.std.specs.List.Sorted.{IsNonDecreasingBy, IsPermutation, IsSorted, Is
 use Rattle.std.specs.declared.option.Option.{Option}
 use Rattle.std.specs.declared.option.Option.TheVariants.{Some, None}
 use Rattle.std.proofs.lemmas.List.{take_more, get_or_default, length_push}
-use Rattle.std.proofs.lemmas.List.Elements.{All-push, Contains-get_or}
+use Rattle.std.proofs.lemmas.List.Elements.{All-push, All-weaker, Contains-get_or}
 use Rattle.std.proofs.lemmas.List.Sorted.{Contains-permutation, IsPermutation-sym}
 use Rattle.dl_terms.specs.Sets.{IsSetOf}
 use Rattle.std.specs.Prelude.{IfOk}
@@ -27,7 +27,8 @@ use Rattle.dl_join.proofs.JoinLemmas.{each_push}
 use Rattle.dl_join.proofs.MergeLemmas.{sorted_at}
 use Rattle.dl_join.proofs.OrderLemmas.{pair_linear}
 use Rattle.dl_answer.specs.Facts.{IsPairBelow, Entry, AreEntries, all_pairs}
-use Rattle.dl_answer.specs.OverNames.{ProbeHolds, HasOverNames, HoldsAlike, AreBelow}
+use Rattle.dl_rewrite.specs.OverNames.{ProbeHolds, HasOverNames}
+use Rattle.dl_answer.specs.OverNames.{HoldsAlike, AreBelow}
 use Rattle.dl_answer.specs.Probes.{AreBelowProbe, AreBehind, AreListsOf}
 use Rattle.dl_answer.specs.Replies.{AreOver, GivesTuples}
 use Rattle.dl_answer.specs.declared.index.FactsByPredicate.{FactsByPredicate}
@@ -167,42 +168,49 @@ lists_more h index probes i probe old new pairs inside at are grown sorted holds
 
 -- ---- tuples
 
-module _ (h : Hierarchy) (index : FactsByPredicate) (d : Disjunct) (lists : List (List (ℕ × ℕ)))
-    (are : AreListsOf h index d.probes lists)
-    (axioms : List Axiom) (facts : List Fact) (behind : AreBehind h index axioms facts) where
+-- what exactly one thing holds of, exactly another does that is the same
+pub exactly_same : (P Q : List ℕ → Type 0) → ((t : List ℕ) → P t ↔ Q t) → (tuples : List (List ℕ))
+    → AreExactly P tuples → AreExactly Q tuples
+exactly_same P Q same tuples is = record {
+  ascending = is.ascending;
+  exact = λ t. (λ c. (same t).0 ((is.exact t).0 c), λ h. (is.exact t).1 ((same t).1 h));
+}
+
+module _ (d : Disjunct) (lists : List (List (ℕ × ℕ))) (axioms : List Axiom) (facts : List Fact)
+    (each : (k : ℕ) (p : Probe) → k < length d.probes → HoldsAlike axioms facts (get_or d.probes k p)
+    (get_or lists k [])) where
   -- the tuples over the lists are those over axioms and facts
   tuple_over : (tuple : List ℕ) → IsTuple d lists tuple ↔ HasOverNames axioms facts d tuple
   tuple_over tuple = (
     λ t. record {
       names = t.names;
       is_head = t.head;
-      probes = λ p c.
-          subst (ProbeHolds axioms facts t.names) c.2
-          ((are.each axioms facts behind c.0 p c.1 t.names).0 (t.probes c.0 p c.1));
+      probes = λ p c. subst (ProbeHolds axioms facts t.names) c.2 ((each c.0 p c.1 t.names).0 (t.probes c.0 p c.1));
     },
     λ t. record {
       names = t.names;
-      probes = λ k p lt. (are.each axioms facts behind k p lt t.names).1
-          (t.probes (get_or d.probes k p) (Contains-get_or d.probes k p lt));
+      probes = λ k p lt. (each k p lt t.names).1 (t.probes (get_or d.probes k p) (Contains-get_or d.probes k p lt));
       head = t.is_head;
     },
   )
 
   pub exactly_over : (tuples : List (List ℕ)) → AreExactly (IsTuple d lists) tuples
       → AreExactly (HasOverNames axioms facts d) tuples
-  exactly_over tuples is = record {
-    ascending = is.ascending;
-    exact = λ t. (λ c. (tuple_over t).0 ((is.exact t).0 c), λ w. (is.exact t).1 ((tuple_over t).1 w));
-  }
+  exactly_over = exactly_same (IsTuple d lists) (HasOverNames axioms facts d) tuple_over
 
-  pub over_over : (n limit : ℕ) → AreBelow n d.probes → IsSafe d → AreMoreThan limit (IsTuple d lists)
-      → AreOver limit (HasOverNames axioms facts d)
-  over_over n limit few safe more =
-      let all = exactly_exists n d lists are.count few safe in record {
-        tuples = all.0;
-        exact = exactly_over all.0 all.1;
-        longer = over_exactly limit (IsTuple d lists) all.0 all.1 more;
-      }
+-- more tuples than a limit are over it, where all have a list
+pub over_more : (limit : ℕ) (P Q : List ℕ → Type 0) → ((t : List ℕ) → P t → Q t) → AreMoreThan limit P
+    → (tuples : List (List ℕ)) × AreExactly Q tuples → AreOver limit Q
+over_more limit P Q within more all = record {
+  tuples = all.0;
+  exact = all.1;
+  longer = over_exactly limit Q all.0 all.1 record {
+    tuples = more.tuples;
+    ascending = more.ascending;
+    each = All-weaker P Q within more.tuples more.each;
+    longer = more.longer;
+  };
+}
 
 -- what a join gives is what a disjunct has
 pub gives_tuples : (h : Hierarchy) (index : FactsByPredicate) (d : Disjunct) (lists : List (List (ℕ × ℕ)))
@@ -213,7 +221,11 @@ pub gives_tuples : (h : Hierarchy) (index : FactsByPredicate) (d : Disjunct) (li
     → (axioms : List Axiom) (facts : List Fact) → AreBehind h index axioms facts
     → GivesTuples (HasOverNames axioms facts d) limit result
 gives_tuples h index d lists limit (Ok t) are few safe exact within more axioms facts behind =
-    (exactly_over h index d lists are axioms facts behind t.tuples exact, within)
+    (exactly_over d lists axioms facts (are.each axioms facts behind) t.tuples exact, within)
 gives_tuples h index d lists limit (Err TooMany) are few safe exact within more axioms facts behind =
-    over_over h index d lists are axioms facts behind d.vars limit few safe (more refl)
+    let all = exactly_exists d.vars d lists are.count few safe in
+    let over = exactly_over d lists axioms facts (are.each axioms facts behind) in
+    over_more limit (IsTuple d lists) (HasOverNames axioms facts d)
+    (λ t. (tuple_over d lists axioms facts (are.each axioms facts behind) t).0) (more refl)
+    (all.0, over all.0 all.1)
 gives_tuples h index d lists limit (Err NoMemory) are few safe exact within more axioms facts behind = tt

@@ -383,6 +383,13 @@ exactly_exists n d lists count few safe =
       },
     )
 
+-- what holds of nothing has the list without an item
+pub exactly_none : (P : List ℕ → Type 0) → ((t : List ℕ) → P t → ⊥) → AreExactly P []
+exactly_none P none = record {
+  ascending = sorted_nil _;
+  exact = λ t. (λ c. absurd (Contains-nil t c), λ h. absurd (none t h));
+}
+
 -- what one or another thing holds of has a list where each of the two has one
 pub union_exists : (P Q : List ℕ → Type 0) (one two : List (List ℕ)) → AreExactly P one → AreExactly Q two
     → (tuples : List (List ℕ)) × AreExactly (λ t. P t ⊎ Q t) tuples

@@ -1,5 +1,4 @@
 pub mod OverNames
-pub mod AtNames
 pub mod Facts
 pub mod Replies
 pub mod Probes

@@ -8,11 +8,12 @@ use Rattle.dl_terms.specs.declared.axiom.Axiom.{Axiom}
 use Rattle.dl_terms.specs.declared.axiom.Fact.{Fact}
 use Rattle.dl_terms.specs.declared.query.Probe.{Probe}
 use Rattle.dl_terms.specs.declared.query.Probe.TheVariants.{AnyOf, Joined}
-use Rattle.dl_hier.specs.Predicates.{Predicates}
+use Rattle.dl_hier.specs.Predicates.{Predicates, roles}
 use Rattle.dl_hier.specs.Hierarchy.{Hierarchy, IsHierarchyOf}
 use Rattle.dl_hier.specs.Below.{IsBelowOneOf, AreThose}
 use Rattle.dl_hier.specs.declared.below.Below.{Below}
 use Rattle.dl_join.specs.Disjuncts.{AreSorted}
+use Rattle.dl_rewrite.specs.Known.{HasRolesOf}
 use Rattle.dl_answer.specs.Facts.{HasPredicate, AreEntries, class_entry, role_entry}
 use Rattle.dl_answer.specs.OverNames.{HoldsAlike}
 use Rattle.dl_answer.specs.declared.index.FactsByPredicate.{FactsByPredicate}
@@ -32,9 +33,10 @@ pub record IsIndexOf (facts : List Fact) (index : FactsByPredicate) : Type 0 whe
   pub classes : AreEntries class_entry facts index.classes.items
   pub roles : AreEntries role_entry facts index.roles.items
 
--- a hierarchy is that of the axioms and has the predicates of the facts, which an index has
+-- a hierarchy is that of the axioms, with their roles, and has the predicates of the facts, which an index has
 pub record AreBehind (h : Hierarchy) (index : FactsByPredicate) (axioms : List Axiom) (facts : List Fact) : Type 0 where
   pub hierarchy : IsHierarchyOf h axioms
+  pub has_roles : HasRolesOf axioms (roles h.predicates)
   pub known : All (HasPredicate h.predicates.classes h.predicates.properties) facts
   pub indexed : IsIndexOf facts index
 

@@ -2,7 +2,6 @@
 use Rattle.std.specs.Prelude.{◌≡◌, ℕ, ◌<◌, ◌≤◌, List, [], length, Result, Ok, Err}
 use Rattle.std.specs.declared.option.Option.{Option}
 use Rattle.dl_terms.specs.NormalForm.{role_inclusions, concept_inclusions, negatives}
-use Rattle.dl_terms.specs.Queries.{existential_variables}
 use Rattle.dl_terms.specs.Reply.{Reply, IsReply, inconsistent, too_many, found}
 use Rattle.dl_terms.specs.declared.role.Normal.{Normal}
 use Rattle.dl_terms.specs.declared.axiom.Axiom.{Axiom}
@@ -30,9 +29,8 @@ normal_form axioms = record {
 abbrev pub max_weight : ℕ
 max_weight = 65536
 
--- what is answered so far: queries without existential variables, over axioms that nothing can break
-pub record IsServed (axioms : List Axiom) (q : Query) (nothing : Option ℕ) : Type 0 where
-  pub variables : existential_variables q ≡ []
+-- what is answered so far: queries over axioms that nothing can break
+pub record IsServed (axioms : List Axiom) (nothing : Option ℕ) : Type 0 where
   pub negatives : negatives axioms nothing ≡ []
 
 -- the reply and the version that an answer tells

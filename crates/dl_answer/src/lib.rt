@@ -3,11 +3,11 @@
 
 mod answer;
 mod asked;
+mod certain;
 mod facts;
 mod fault;
 mod index;
 mod known;
-mod names;
 mod pairs;
 mod probes;
 mod served;

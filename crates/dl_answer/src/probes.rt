@@ -1,12 +1,14 @@
 // The lists of the pairs of probes, and the tuples of a disjunct over them.
-ghost use Rattle.std.specs.Prelude.{◌≡◌, ◌<◌, ◌^◌, ℕ, List as Items, length, IfOk};
+ghost use Rattle.std.specs.Prelude.{◌≡◌, ◌<◌, ◌≤◌, ◌^◌, ℕ, List as Items, length, IfOk};
 ghost use Rattle.std.specs.List.Sorted.{IsSorted};
 ghost use Rattle.dl_terms.specs.Roles.{named};
+ghost use Rattle.dl_terms.specs.Answers.{AscendStrictly};
 ghost use Rattle.dl_terms.specs.declared.axiom.Axiom.{Axiom};
 ghost use Rattle.dl_terms.specs.declared.axiom.Fact.{Fact};
 ghost use Rattle.dl_hier.specs.Hierarchy.{IsHierarchyOf};
 ghost use Rattle.dl_join.specs.Disjuncts.{pair_cmp, IsSafe};
-ghost use Rattle.dl_answer.specs.OverNames.{HasOverNames, HoldsAlike, AreBelow};
+ghost use Rattle.dl_rewrite.specs.OverNames.{HasOverNames};
+ghost use Rattle.dl_answer.specs.OverNames.{HoldsAlike, AreBelow};
 ghost use Rattle.dl_answer.specs.Probes.{AreBelowProbe, AreBehind, AreListsOf};
 ghost use Rattle.dl_answer.specs.Replies.{GivesTuples};
 
@@ -29,7 +31,10 @@ pub(crate) fn tuples_of(
     requires safe { IsSafe disjunct.now }
     requires variables { AreBelow disjunct.now.vars disjunct.now.probes }
     requires width { length disjunct.now.head < 2 ^ 32 }
-    ensures { (axioms : Items Axiom) (known : Items Fact) → AreBehind hier.now facts.now axioms known →
+    ensures ascending { IfOk result (λ tuples. AscendStrictly tuples.tuples) }
+    ensures width { IfOk result (λ tuples. tuples.width ≡ length disjunct.now.head) }
+    ensures within { IfOk result (λ tuples. length tuples.tuples ≤ limit) }
+    ensures tuples { (axioms : Items Axiom) (known : Items Fact) → AreBehind hier.now facts.now axioms known →
         GivesTuples (HasOverNames axioms known disjunct.now) limit result }
 {
     let lists = lists_of(alloc, hier, facts, disjunct.probes.as_slice())?;

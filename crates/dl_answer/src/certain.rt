@@ -1,0 +1,83 @@
+// The certain answers of a query: the tuples of the disjuncts of its rewriting, united.
+ghost use Rattle.std.specs.Prelude.{◌≡◌, ℕ, ◌⊎◌, ◌≤◌, List as Items, length, IfOk};
+ghost use Rattle.std.specs.List.{All, Contains};
+ghost use Rattle.dl_terms.specs.Answers.{IsCertain, AscendStrictly};
+ghost use Rattle.dl_terms.specs.Queries.{IsWellFormed};
+ghost use Rattle.dl_terms.specs.declared.axiom.Axiom.{Axiom};
+ghost use Rattle.dl_terms.specs.declared.axiom.Fact.{Fact};
+ghost use Rattle.dl_join.specs.Tuples.{AreExactly, AreMoreThan};
+ghost use Rattle.dl_rewrite.specs.OverNames.{SomeHasOverNames};
+ghost use Rattle.dl_rewrite.specs.Shape.{IsShapedFor};
+ghost use Rattle.dl_answer.specs.Probes.{AreBehind};
+ghost use Rattle.dl_answer.specs.Replies.{GivesTuples};
+
+use crate::index::FactsByPredicate;
+use crate::probes::tuples_of;
+use dl_hier::Hier;
+use dl_join::{JoinFault, merge};
+use dl_rewrite::rewrite;
+use dl_terms::{Disjunct, Query, Tuples};
+use std::alloc::Global;
+
+/// The certain answers of a query, each once, ascending. `TooMany` comes exactly where they are more than the limit.
+pub(crate) fn certain(
+    alloc: Global,
+    hier: &Hier,
+    facts: &FactsByPredicate,
+    query: &Query,
+    limit: u64,
+) -> Result<Tuples, JoinFault>
+    requires query { IsWellFormed query.now }
+    ensures { (axioms : Items Axiom) (known : Items Fact) → AreBehind hier.now facts.now axioms known →
+        GivesTuples (IsCertain axioms known query.now) limit result }
+{
+    let disjuncts = rewrite(alloc, hier, query)?;
+    united(alloc, hier, facts, query, disjuncts.as_slice(), limit)
+}
+
+/// The tuples that one of some disjuncts of a query has, each once, ascending. `TooMany` comes exactly where they are
+/// more than the limit.
+fn united(
+    alloc: Global,
+    hier: &Hier,
+    facts: &FactsByPredicate,
+    query: &Query,
+    disjuncts: &[Disjunct],
+    limit: u64,
+) -> Result<Tuples, JoinFault>
+    requires query { IsWellFormed query.now }
+    requires shaped { All (IsShapedFor query.now) disjuncts.now }
+    ensures { (axioms : Items Axiom) (known : Items Fact) → AreBehind hier.now facts.now axioms known →
+        GivesTuples (SomeHasOverNames axioms known disjuncts.now) limit result }
+{
+    let mut tuples = Tuples::new(alloc, query.head.len() as u32);
+    for disjunct in disjuncts {
+        let more = tuples_of(alloc, hier, facts, disjunct, limit)?;
+        tuples = union(alloc, tuples, more, limit)?;
+    }
+    Ok(tuples)
+}
+
+/// The tuples of two lists, each once, ascending. `TooMany` comes exactly where they are more than the limit. Where
+/// one list has none, nothing is copied.
+fn union(alloc: Global, one: Tuples, two: Tuples, limit: u64) -> Result<Tuples, JoinFault>
+    requires one { AscendStrictly one.tuples }
+    requires two { AscendStrictly two.tuples }
+    requires width { two.width ≡ one.width }
+    requires one_within { length one.tuples ≤ limit }
+    requires two_within { length two.tuples ≤ limit }
+    ensures tuples { IfOk result (λ all.
+        AreExactly (λ tuple. Contains one.tuples tuple ⊎ Contains two.tuples tuple) all.tuples) }
+    ensures width { IfOk result (λ all. all.width ≡ one.width) }
+    ensures within { IfOk result (λ all. length all.tuples ≤ limit) }
+    ensures many { result ≡ Err JoinFault.TooMany →
+        AreMoreThan limit (λ tuple. Contains one.tuples tuple ⊎ Contains two.tuples tuple) }
+{
+    if one.len() == 0 {
+        return Ok(two);
+    }
+    if two.len() == 0 {
+        return Ok(one);
+    }
+    merge(alloc, &one, &two, limit)
+}
