@@ -7,3 +7,4 @@ pub mod StepLemmas
 pub mod HeadLemmas
 pub mod DecidedLemmas
 pub mod UnionLemmas
+pub mod KeptLemmas

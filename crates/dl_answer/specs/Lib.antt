@@ -2,3 +2,4 @@ pub mod OverNames
 pub mod Facts
 pub mod Replies
 pub mod Probes
+pub mod Kept

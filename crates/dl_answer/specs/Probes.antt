@@ -1,6 +1,8 @@
 -- What is below a probe, and the lists of pairs of probes, for private functions.
 use Rattle.std.specs.Prelude.{◌≡◌, ℕ, ◌<◌, List, [], length, slice_index_or}
 use Rattle.std.specs.List.{All}
+use Rattle.std.specs.List.Sorted.{IsSorted}
+use Rattle.dl_terms.specs.declared.role.Basic.{Basic}
 use Rattle.dl_terms.specs.Roles.{named, inverse_of}
 use Rattle.dl_terms.specs.Below.{RoleBelow}
 use Rattle.dl_terms.specs.declared.role.Basic.TheVariants.{Class, SomeOf}
@@ -12,7 +14,7 @@ use Rattle.dl_hier.specs.Predicates.{Predicates, roles}
 use Rattle.dl_hier.specs.Hierarchy.{Hierarchy, IsHierarchyOf}
 use Rattle.dl_hier.specs.Below.{IsBelowOneOf, AreThose}
 use Rattle.dl_hier.specs.declared.below.Below.{Below}
-use Rattle.dl_join.specs.Disjuncts.{AreSorted}
+use Rattle.dl_join.specs.Disjuncts.{pair_cmp, AreSorted}
 use Rattle.dl_rewrite.specs.Known.{HasRolesOf}
 use Rattle.dl_answer.specs.Facts.{HasPredicate, AreEntries, class_entry, role_entry}
 use Rattle.dl_answer.specs.OverNames.{HoldsAlike}
@@ -39,6 +41,26 @@ pub record AreBehind (h : Hierarchy) (index : FactsByPredicate) (axioms : List A
   pub has_roles : HasRolesOf axioms (roles h.predicates)
   pub known : All (HasPredicate h.predicates.classes h.predicates.properties) facts
   pub indexed : IsIndexOf facts index
+
+-- a probe asks for one of these basic concepts, or for this role
+abbrev pub AsksOneOf : List Basic → Probe → Type 0
+AsksOneOf basics (AnyOf others t) = basics ≡ others
+AsksOneOf basics (Joined role t u) = ⊥
+
+abbrev pub AsksRole : ℕ → Probe → Type 0
+AsksRole role (AnyOf basics t) = ⊥
+AsksRole role (Joined other t u) = role ≡ other
+
+-- probes that ask the same, of whatever terms
+abbrev pub AskAlike : Probe → Probe → Type 0
+AskAlike (AnyOf basics t) other = AsksOneOf basics other
+AskAlike (Joined role t u) other = AsksRole role other
+
+-- a sorted list over which each probe that asks the same holds exactly where it holds over axioms and facts
+pub record IsListOf (h : Hierarchy) (index : FactsByPredicate) (probe : Probe) (pairs : List (ℕ × ℕ)) : Type 0 where
+  pub sorted : IsSorted pair_cmp pairs
+  pub holds : (axioms : List Axiom) (facts : List Fact) → AreBehind h index axioms facts
+      → (q : Probe) → AskAlike probe q → HoldsAlike axioms facts q pairs
 
 -- one sorted list for each probe, over which it holds exactly where it holds over axioms and facts
 pub record AreListsOf (h : Hierarchy) (index : FactsByPredicate) (probes : List Probe) (lists : List (List (ℕ × ℕ)))

@@ -51,8 +51,10 @@ fn united(
         GivesTuples (SomeHasOverNames axioms known disjuncts.now) limit result }
 {
     let mut tuples = Tuples::new(alloc, query.head.len() as u32);
-    for disjunct in disjuncts {
-        let more = tuples_of(alloc, hier, facts, disjunct, limit)?;
+    let mut kept = Vec::new(alloc);
+    for (i, disjunct) in disjuncts.iter().enumerate() {
+        let later = &disjuncts[i + 1..];
+        let more = tuples_of(alloc, hier, facts, disjunct, later, &mut kept, limit)?;
         tuples = union(alloc, tuples, more, limit)?;
     }
     Ok(tuples)

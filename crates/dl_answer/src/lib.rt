@@ -7,6 +7,7 @@ mod certain;
 mod facts;
 mod fault;
 mod index;
+mod kept;
 mod known;
 mod pairs;
 mod probes;

@@ -1,18 +1,20 @@
 // The lists of the pairs of probes, and the tuples of a disjunct over them.
-ghost use Rattle.std.specs.Prelude.{◌≡◌, ◌<◌, ◌≤◌, ◌^◌, ℕ, List as Items, length, IfOk};
-ghost use Rattle.std.specs.List.Sorted.{IsSorted};
+ghost use Rattle.std.specs.Prelude.{◌≡◌, ◌<◌, ◌≤◌, ◌^◌, ℕ, List as Items, [], length, IfOk, OnOk, MatchOption};
+ghost use Rattle.std.specs.List.{All, Any};
 ghost use Rattle.dl_terms.specs.Roles.{named};
 ghost use Rattle.dl_terms.specs.Answers.{AscendStrictly};
 ghost use Rattle.dl_terms.specs.declared.axiom.Axiom.{Axiom};
 ghost use Rattle.dl_terms.specs.declared.axiom.Fact.{Fact};
 ghost use Rattle.dl_hier.specs.Hierarchy.{IsHierarchyOf};
-ghost use Rattle.dl_join.specs.Disjuncts.{pair_cmp, IsSafe};
+ghost use Rattle.dl_join.specs.Disjuncts.{IsSafe};
 ghost use Rattle.dl_rewrite.specs.OverNames.{HasOverNames};
-ghost use Rattle.dl_answer.specs.OverNames.{HoldsAlike, AreBelow};
-ghost use Rattle.dl_answer.specs.Probes.{AreBelowProbe, AreBehind, AreListsOf};
+ghost use Rattle.dl_answer.specs.OverNames.{AreBelow};
+ghost use Rattle.dl_answer.specs.Probes.{AreBelowProbe, AreBehind, IsListOf, AreListsOf};
+ghost use Rattle.dl_answer.specs.Kept.{IsKept};
 ghost use Rattle.dl_answer.specs.Replies.{GivesTuples};
 
 use crate::index::FactsByPredicate;
+use crate::kept::{Kept, shared_list};
 use crate::pairs::pairs_below;
 use dl_hier::{Below, Hier};
 use dl_join::{JoinFault, join};
@@ -20,53 +22,66 @@ use dl_terms::{Base, Disjunct, List, NoMemory, Pair, Probe, Role, Tuples};
 use std::alloc::Global;
 
 /// The tuples of a disjunct over names, each once, ascending. `TooMany` comes exactly where they are more than the
-/// limit.
-pub(crate) fn tuples_of(
+/// limit. Lists of probes that later disjuncts have too are kept.
+pub(crate) fn tuples_of<'a>(
     alloc: Global,
     hier: &Hier,
     facts: &FactsByPredicate,
-    disjunct: &Disjunct,
+    disjunct: &'a Disjunct,
+    later: &[Disjunct],
+    kept: &mut Vec<Kept<'a>>,
     limit: u64,
 ) -> Result<Tuples, JoinFault>
     requires safe { IsSafe disjunct.now }
     requires variables { AreBelow disjunct.now.vars disjunct.now.probes }
     requires width { length disjunct.now.head < 2 ^ 32 }
+    requires kept { All (IsKept hier.now facts.now) kept.old.items }
+    ensures kept { OnOk result (All (IsKept hier.now facts.now) kept.new.items) }
     ensures ascending { IfOk result (λ tuples. AscendStrictly tuples.tuples) }
     ensures width { IfOk result (λ tuples. tuples.width ≡ length disjunct.now.head) }
     ensures within { IfOk result (λ tuples. length tuples.tuples ≤ limit) }
     ensures tuples { (axioms : Items Axiom) (known : Items Fact) → AreBehind hier.now facts.now axioms known →
         GivesTuples (HasOverNames axioms known disjunct.now) limit result }
 {
-    let lists = lists_of(alloc, hier, facts, disjunct.probes.as_slice())?;
-    join(alloc, disjunct, lists.as_slice(), limit)
+    match lists_of(alloc, hier, facts, disjunct.probes.as_slice(), later, kept)? {
+        Some(lists) => join(alloc, disjunct, lists.as_slice(), limit),
+        None => Ok(Tuples::new(alloc, disjunct.head.len() as u32)),
+    }
 }
 
-/// One sorted list of pairs for each probe.
-fn lists_of(
+/// One sorted list of pairs for each probe. None where one of them has no pair: nothing is listed behind it.
+fn lists_of<'a>(
     alloc: Global,
     hier: &Hier,
     facts: &FactsByPredicate,
-    probes: &[Probe],
-) -> Result<List<List<Pair>>, NoMemory>
-    ensures { IfOk result (AreListsOf hier.now facts.now probes.now) }
+    probes: &'a [Probe],
+    later: &[Disjunct],
+    kept: &mut Vec<Kept<'a>>,
+) -> Result<Option<List<List<Pair>>>, NoMemory>
+    requires kept { All (IsKept hier.now facts.now) kept.old.items }
+    ensures kept { OnOk result (All (IsKept hier.now facts.now) kept.new.items) }
+    ensures lists { IfOk result (λ found. MatchOption found
+        (Any (λ p. IsListOf hier.now facts.now p []) probes.now) (AreListsOf hier.now facts.now probes.now)) }
 {
     let mut lists = List::new(alloc);
     for probe in probes {
-        lists.push(list_of(alloc, hier, facts, probe)?)?;
+        let pairs = shared_list(alloc, hier, facts, probe, later, kept)?;
+        if pairs.len() == 0 {
+            return Ok(None);
+        }
+        lists.push(pairs)?;
     }
-    Ok(lists)
+    Ok(Some(lists))
 }
 
 /// The sorted list of the pairs of a probe.
-fn list_of(
+pub(crate) fn list_of(
     alloc: Global,
     hier: &Hier,
     facts: &FactsByPredicate,
     probe: &Probe,
 ) -> Result<List<Pair>, NoMemory>
-    ensures sorted { IfOk result (IsSorted pair_cmp) }
-    ensures holds { IfOk result (λ pairs. (axioms : Items Axiom) (known : Items Fact) →
-        AreBehind hier.now facts.now axioms known → HoldsAlike axioms known probe.now pairs) }
+    ensures { IfOk result (IsListOf hier.now facts.now probe.now) }
 {
     let below = below_of(alloc, hier, probe)?;
     pairs_below(alloc, facts, &below)
