@@ -7,7 +7,7 @@ use Rattle.dl_terms.specs.declared.memory.NoMemory.{NoMemory}
 use Rattle.dl_terms.specs.declared.role.Role.{Role}
 use Rattle.dl_terms.specs.declared.role.Basic.{Basic}
 use Rattle.dl_terms.specs.declared.role.Negative.{Negative}
-use Rattle.dl_terms.specs.declared.role.Negative.TheVariants.{Basics, Roles}
+use Rattle.dl_terms.specs.declared.role.Negative.TheVariants.{Basics, Roles, NoLoop}
 use Rattle.dl_terms.specs.declared.query.Term.{Term}
 use Rattle.dl_terms.specs.declared.query.Term.TheVariants.{Var}
 use Rattle.dl_terms.specs.declared.query.Atom.{Atom}
@@ -28,6 +28,12 @@ pub query-roles : (r : Result Query NoMemory) (n : Negative) (t s : Role) (first
 query-roles r n t s first second is at to h =
     IfOk-weaker r (λ q. q ≡ record { head = []; atoms = first ∷ second ∷ []; vars = 2 }) (λ q. q ≡ query_of n)
     (λ q e. e ∙ (λ i. record { head = []; atoms = at i ∷ to i ∷ []; vars = 2 }) ∙ ap query_of (sym is)) h
+
+pub query-loop : (r : Result Query NoMemory) (n : Negative) (t : Role) (only : Atom) → n ≡ NoLoop t → only ≡ role_atom t (Var 0) (Var 0)
+    → IfOk r (λ q. q ≡ record { head = []; atoms = only ∷ []; vars = 1 }) → IfOk r (λ q. q ≡ query_of n)
+query-loop r n t only is at h =
+    IfOk-weaker r (λ q. q ≡ record { head = []; atoms = only ∷ []; vars = 1 }) (λ q. q ≡ query_of n)
+    (λ q e. e ∙ (λ i. record { head = []; atoms = at i ∷ []; vars = 1 }) ∙ ap query_of (sym is)) h
 
 -- an inverse has its terms turned
 pub inverse-atom : (r : Role) (name : ℕ) (t u : Term) → r.inverse ≡ true → name ≡ role_name r.base → Link name u t ≡ role_atom r t u

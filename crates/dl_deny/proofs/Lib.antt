@@ -1,2 +1,3 @@
 pub mod DenialLemmas
 pub mod ExcludedLemmas
+pub mod FormedLemmas

@@ -12,8 +12,8 @@ pub(crate) fn list_of<T: Copy + Drop>(alloc: Global, items: &[T]) -> Result<List
     Ok(List::of(copy))
 }
 
-/// A copy of an axiom.
-pub(crate) fn copy_of(alloc: Global, axiom: &Axiom) -> Result<Axiom, NoMemory>
+/// A copy of an axiom. Fails only for want of memory.
+pub fn copy_of(alloc: Global, axiom: &Axiom) -> Result<Axiom, NoMemory>
     ensures { IfOk result (λ copy. copy ≡ «axiom».now) }
 {
     Ok(match axiom {

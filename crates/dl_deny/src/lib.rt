@@ -5,4 +5,6 @@ mod copied;
 mod denial;
 mod excluded;
 
+pub use copied::copy_of;
 pub use denial::{Denial, denials};
+pub use excluded::query_of;
