@@ -1,10 +1,10 @@
 pub mod NameLemmas
-pub mod ServedLemmas
+pub mod BuiltLemmas
 pub mod TupleLemmas
 pub mod FactLemmas
 pub mod BelowLemmas
 pub mod StepLemmas
-pub mod HeadLemmas
 pub mod DecidedLemmas
 pub mod UnionLemmas
 pub mod KeptLemmas
+pub mod BrokenLemmas

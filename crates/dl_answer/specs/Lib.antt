@@ -3,3 +3,4 @@ pub mod Facts
 pub mod Replies
 pub mod Probes
 pub mod Kept
+pub mod Verdicts

@@ -1,7 +1,7 @@
 -- What a query is answered: the defined reply, or want of memory.
-use Rattle.std.specs.Prelude.{◌≡◌, ℕ, ◌<◌, ◌≤◌, List, [], length, Result, Ok, Err}
+use Rattle.std.specs.Prelude.{◌≡◌, ℕ, ◌<◌, ◌≤◌, List, length, Result, Ok, Err}
 use Rattle.std.specs.declared.option.Option.{Option}
-use Rattle.dl_terms.specs.NormalForm.{role_inclusions, concept_inclusions, negatives}
+use Rattle.dl_terms.specs.NormalForm.{role_inclusions, concept_inclusions}
 use Rattle.dl_terms.specs.Reply.{Reply, IsReply, inconsistent, too_many, found}
 use Rattle.dl_terms.specs.declared.role.Normal.{Normal}
 use Rattle.dl_terms.specs.declared.axiom.Axiom.{Axiom}
@@ -28,10 +28,6 @@ normal_form axioms = record {
 -- the greatest weight of axioms
 abbrev pub max_weight : ℕ
 max_weight = 65536
-
--- what is answered so far: queries over axioms that nothing can break
-pub record IsServed (axioms : List Axiom) (nothing : Option ℕ) : Type 0 where
-  pub negatives : negatives axioms nothing ≡ []
 
 -- the reply and the version that an answer tells
 abbrev pub reply_of : Answer → Reply

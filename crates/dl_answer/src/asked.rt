@@ -1,15 +1,20 @@
 // A query asked of lists of axioms and facts.
-ghost use Rattle.std.specs.Prelude.{◌≤◌, IfOk};
+ghost use Rattle.std.specs.Prelude.{◌≤◌, ℕ, List as Items, Option as Maybe, IfOk};
 ghost use Rattle.dl_terms.specs.Answers.{IsCertain};
+ghost use Rattle.dl_terms.specs.Broken.{NothingIsBroken};
 ghost use Rattle.dl_terms.specs.Queries.{IsWellFormed};
+ghost use Rattle.dl_terms.specs.declared.axiom.Axiom.{Axiom};
+ghost use Rattle.dl_terms.specs.declared.axiom.Fact.{Fact};
+ghost use Rattle.dl_terms.specs.declared.query.Query.{Query};
 ghost use Rattle.dl_normal.specs.Weight.{total_weight};
 ghost use Rattle.dl_hier.specs.Predicates.{roles};
 ghost use Rattle.dl_hier.specs.Hierarchy.{IsHierarchyOf};
 ghost use Rattle.dl_hier.specs.Rows.{HasNames, AreFew, ArePredicatesOf};
 ghost use Rattle.dl_rewrite.specs.Known.{HasRolesOf};
 ghost use Rattle.dl_answer.specs.Facts.{HasPredicates};
-ghost use Rattle.dl_answer.specs.Replies.{normal_form, max_weight, IsServed, RepliesTo, GivesTuples};
+ghost use Rattle.dl_answer.specs.Replies.{normal_form, max_weight, RepliesTo, GivesTuples};
 
+use crate::broken::{Verdict, first_broken};
 use crate::certain::certain;
 use crate::facts::by_predicate;
 use crate::{Answer, AskFault};
@@ -19,13 +24,12 @@ use dl_normal::normal;
 use dl_terms::{Axiom, Fact, NoMemory, Query, Signature, Tuples};
 use std::alloc::Global;
 
-/// The defined reply to a query over lists of axioms and facts: the certain answers, or the first broken axiom, at
+/// The defined reply to a query over lists of axioms and facts: the first broken axiom, or else the certain answers, at
 /// version 1. `TooMany` comes exactly where no axiom is broken and there are more certain answers than the limit;
-/// `NoPin` never comes. So far axioms have no negative.
+/// `NoPin` never comes. `nothing` is the number of `owl:Nothing`, or None where that is no name.
 ///
 /// The signature has the names of the axioms, and the predicates are few: `fits` of `dl_hier` tests both. It has the
-/// predicates of the facts: `has_predicates` tests that, `weight` of `dl_normal` gives the weight, and `is_served` tests
-/// what is served so far.
+/// predicates of the facts: `has_predicates` tests that, and `weight` of `dl_normal` gives the weight.
 pub fn ask_facts(
     alloc: Global,
     axioms: &[Axiom],
@@ -40,36 +44,28 @@ pub fn ask_facts(
     requires weight { total_weight axioms.now ≤ max_weight }
     requires predicates { HasPredicates signature.now facts.now }
     requires query { IsWellFormed query.now }
-    requires served { IsServed axioms.now nothing }
     ensures { RepliesTo axioms.now facts.now nothing query.now limit 1 result }
 {
-    match certain_over(alloc, axioms, signature, facts, query, limit) {
+    let hier = hier_of(alloc, axioms, signature)?;
+    let facts = by_predicate(alloc, facts)?;
+    let verdict = first_broken(alloc, &hier, &facts, axioms, nothing)?;
+    match verdict {
+        Verdict::Broken(axiom) => Ok(Answer::Inconsistent { version: 1, axiom }),
+        Verdict::Sound => told(certain(alloc, &hier, &facts, query, limit)),
+    }
+}
+
+/// What certain answers are told as where nothing is broken.
+fn told(tuples: Result<Tuples, JoinFault>) -> Result<Answer, AskFault>
+    ensures { (axioms : Items Axiom) (facts : Items Fact) (nothing : Maybe ℕ) (q : Query) (limit : ℕ) →
+        NothingIsBroken axioms facts nothing → GivesTuples (IsCertain axioms facts q) limit tuples →
+        RepliesTo axioms facts nothing q limit 1 result }
+{
+    match tuples {
         Ok(tuples) => Ok(Answer::Found { version: 1, tuples }),
         Err(JoinFault::TooMany) => Err(AskFault::TooMany { version: 1 }),
         Err(JoinFault::NoMemory) => Err(AskFault::NoMemory),
     }
-}
-
-/// The certain answers of a query over axioms and facts, each once, ascending. `TooMany` comes exactly where they are
-/// more than the limit.
-fn certain_over(
-    alloc: Global,
-    axioms: &[Axiom],
-    signature: &Signature,
-    facts: &[Fact],
-    query: &Query,
-    limit: u64,
-) -> Result<Tuples, JoinFault>
-    requires names { HasNames signature.now (normal_form axioms.now) }
-    requires few { AreFew signature.now (normal_form axioms.now) }
-    requires weight { total_weight axioms.now ≤ max_weight }
-    requires predicates { HasPredicates signature.now facts.now }
-    requires query { IsWellFormed query.now }
-    ensures { GivesTuples (IsCertain axioms.now facts.now query.now) limit result }
-{
-    let hier = hier_of(alloc, axioms, signature)?;
-    let facts = by_predicate(alloc, facts)?;
-    certain(alloc, &hier, &facts, query, limit)
 }
 
 /// The hierarchy of axioms, over the predicates of a signature.

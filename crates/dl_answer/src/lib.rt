@@ -3,6 +3,7 @@
 
 mod answer;
 mod asked;
+mod broken;
 mod certain;
 mod facts;
 mod fault;
@@ -11,10 +12,8 @@ mod kept;
 mod known;
 mod pairs;
 mod probes;
-mod served;
 
 pub use answer::Answer;
 pub use asked::ask_facts;
 pub use fault::AskFault;
 pub use known::has_predicates;
-pub use served::is_served;

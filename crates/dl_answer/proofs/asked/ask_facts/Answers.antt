@@ -1,19 +1,35 @@
 use Rattle.std.proofs.Common.{refl}
-use Rattle.dl_answer.proofs.ServedLemmas.{found_reply, too_many_reply}
+use Rattle.dl_answer.specs.Replies.{normal_form}
+use Rattle.dl_answer.proofs.BrokenLemmas.{broken_reply, sound_reply}
+use Rattle.dl_answer.proofs.BuiltLemmas.{few_axioms, known_predicates}
 use Rattle.dl_answer.proofs.asked.ask_facts.Goals as goal
 
-pub returns-in-Ok : goal.returns-in-Ok
-returns-in-Ok c = (
-  found_reply c.args.axioms.now c.args.facts.now c.args.query.now c.args.nothing c.args.limit
-      c.requires.served c.in-Ok.tuples.tuples
-      c.in-Ok.ensures.0 c.in-Ok.ensures.1,
-  refl,
-)
+pub first_broken-requires : goal.first_broken-requires
+first_broken-requires c = few_axioms c.args.axioms.now c.requires.weight
 
-pub returns-in-Err-TooMany : goal.returns-in-Err-TooMany
-returns-in-Err-TooMany c = (
-  too_many_reply c.args.axioms.now c.args.facts.now c.args.query.now c.args.nothing c.args.limit
-      c.requires.served
-      (rw c.in-Err-TooMany.field-0-is at c.in-Err-TooMany.ensures),
-  refl,
-)
+pub returns-in-Broken : goal.returns-in-Broken
+returns-in-Broken c =
+    let axioms = c.args.axioms.now in
+    let facts = c.args.facts.now in
+    let known = known_predicates c.args.signature.now
+    (normal_form axioms) c.in_ok-hier.hier.predicates facts c.in_ok-hier.ensures.predicates c.requires.predicates in (
+      broken_reply axioms facts c.args.nothing c.in_ok-verdict.verdict
+          (c.in_ok-verdict.ensures facts record
+          { hierarchy = c.in_ok-hier.ensures.hierarchy; has_roles = c.in_ok-hier.ensures.roles; known = known; indexed = c.in_ok-facts.ensures })
+          c.args.query.now c.args.limit c.in-Broken.axiom c.in-Broken.is,
+      refl,
+    )
+
+pub returns : goal.returns
+returns c =
+    let axioms = c.args.axioms.now in
+    let facts = c.args.facts.now in
+    let known = known_predicates c.args.signature.now
+    (normal_form axioms) c.in_ok-hier.hier.predicates facts c.in_ok-hier.ensures.predicates c.requires.predicates in
+    c.told.ensures axioms facts c.args.nothing c.args.query.now c.args.limit
+    (sound_reply axioms facts c.args.nothing c.in_ok-verdict.verdict
+    (c.in_ok-verdict.ensures facts record
+    { hierarchy = c.in_ok-hier.ensures.hierarchy; has_roles = c.in_ok-hier.ensures.roles; known = known; indexed = c.in_ok-facts.ensures })
+    c.in-Sound.is)
+    (c.certain.ensures axioms facts record
+    { hierarchy = c.in_ok-hier.ensures.hierarchy; has_roles = c.in_ok-hier.ensures.roles; known = known; indexed = c.in_ok-facts.ensures })

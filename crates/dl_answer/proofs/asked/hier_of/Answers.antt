@@ -7,7 +7,7 @@ use Rattle.dl_hier.specs.Rows.{HasInclusions, HasNames, AreFew, ArePredicatesOf}
 use Rattle.dl_rewrite.specs.Known.{HasRolesOf}
 use Rattle.dl_rewrite.proofs.KnownLemmas.{roles_had}
 use Rattle.dl_answer.specs.Replies.{normal_form}
-use Rattle.dl_answer.proofs.ServedLemmas.{few_axioms, normal_is, inclusions_of}
+use Rattle.dl_answer.proofs.BuiltLemmas.{few_axioms, normal_is, inclusions_of}
 use Rattle.dl_answer.proofs.asked.hier_of.Goals as goal
 
 pub normal-requires : goal.normal-requires

@@ -1,38 +1,19 @@
--- Axioms without negatives, and what is built from axioms.
+-- What is built from axioms within the limits: their normal form, and the predicates of their hierarchy.
 use Rattle.std.proofs.Common.{◌≡◌, ℕ, ◌+◌, ◌<◌, ◌≤◌, ◌^◌, List, [], ◌∷◌, length, arith}
 use Rattle.std.specs.List.{All}
-use Rattle.std.specs.declared.option.Option.{Option}
 use Rattle.std.proofs.lemmas.List.Sums.{sum_by-cons}
-use Rattle.std.proofs.lemmas.List.Elements.{All-nil, All-same, All-weaker}
-use Rattle.dl_terms.specs.NormalForm.{negatives}
-use Rattle.dl_terms.specs.Broken.{IsMet, NothingIsBroken}
+use Rattle.std.proofs.lemmas.List.Elements.{All-weaker}
 use Rattle.dl_terms.specs.declared.role.Normal.{Normal}
 use Rattle.dl_terms.specs.declared.axiom.Axiom.{Axiom}
 use Rattle.dl_terms.specs.declared.axiom.Fact.{Fact}
-use Rattle.dl_terms.specs.declared.query.Query.{Query}
-use Rattle.dl_terms.specs.Answers.{IsCertain, AreCertain}
-use Rattle.dl_terms.specs.Reply.{IsReply, found, too_many}
-use Rattle.dl_terms.specs.Reply.IsReply.{is_too_many, is_found}
 use Rattle.dl_terms.specs.declared.axiom.Fact.TheVariants.{Is, Link}
 use Rattle.dl_terms.specs.declared.axiom.Signature.{Signature}
 use Rattle.dl_normal.specs.Indexed.{IsNormalForm}
 use Rattle.dl_normal.specs.Weight.{axiom_weight, total_weight}
 use Rattle.dl_hier.specs.Predicates.{Predicates}
 use Rattle.dl_hier.specs.Rows.{HasInclusions, ArePredicatesOf}
-use Rattle.dl_join.specs.Tuples.{AreExactly}
 use Rattle.dl_answer.specs.Facts.{HasPredicate, HasPredicates}
-use Rattle.dl_answer.specs.Replies.{normal_form, max_weight, IsServed, AreOver}
-
--- ---- negatives
-
--- where the axioms have no negative, nothing is broken
-pub nothing_broken : (axioms : List Axiom) (facts : List Fact) (nothing : Option ℕ)
-    → negatives axioms nothing ≡ [] → NothingIsBroken axioms facts nothing
-nothing_broken axioms facts nothing none =
-    All-same (λ n. ¬ IsMet axioms facts n.1) (negatives axioms nothing) [] none
-    (All-nil (λ n. ¬ IsMet axioms facts n.1))
-
--- ---- what is built
+use Rattle.dl_answer.specs.Replies.{normal_form, max_weight}
 
 -- axioms of a weight are no more than it
 pub length_by_weight : (axioms : List Axiom) → length axioms ≤ total_weight axioms
@@ -61,20 +42,3 @@ known_predicates signature normal p facts of known = All-weaker (HasPredicate si
     each : (f : Fact) → HasPredicate signature.classes signature.roles f → HasPredicate p.classes p.properties f
     each (Is c a) h = (of.classes.members c).1 h
     each (Link r a b) h = (of.properties.members r).1 h
-
--- ---- answers
-
-certain_list : (axioms : List Axiom) (facts : List Fact) (q : Query) (tuples : List (List ℕ))
-    → AreExactly (IsCertain axioms facts q) tuples → AreCertain axioms facts q tuples
-certain_list axioms facts q tuples is = record { ascending = is.ascending; exact = is.exact }
-
-module _ (axioms : List Axiom) (facts : List Fact) (q : Query) (nothing : Option ℕ) (limit : ℕ)
-    (served : IsServed axioms nothing) where
-  pub found_reply : (tuples : List (List ℕ)) → AreExactly (IsCertain axioms facts q) tuples → length tuples ≤ limit
-      → IsReply axioms facts nothing q limit (found tuples)
-  found_reply tuples is within = is_found (nothing_broken axioms facts nothing served.negatives)
-      (certain_list axioms facts q tuples is) within
-
-  pub too_many_reply : AreOver limit (IsCertain axioms facts q) → IsReply axioms facts nothing q limit too_many
-  too_many_reply over = is_too_many (nothing_broken axioms facts nothing served.negatives)
-      (certain_list axioms facts q over.tuples over.exact) over.longer

@@ -1,0 +1,30 @@
+use Rattle.std.proofs.Common.{◌∙◌}
+use Rattle.dl_answer.proofs.BrokenLemmas.{found_within, found_broken, found_last, found_sound}
+use Rattle.dl_answer.proofs.broken.first_broken.Goals as goal
+
+pub bounds-axioms-index : goal.bounds-axioms-index
+bounds-axioms-index c =
+    found_within c.args.axioms.now c.as_slice.result.now (c.as_slice.ensures ∙ c.in_ok-normal.ensures.rows.negatives)
+    c.in_ok-index.field-0 c.in-Some.index c.in-Some.is c.in_ok-index.ensures.there
+
+pub returns-in-Some : goal.returns-in-Some
+returns-in-Some c = λ known behind.
+    let negatives = c.as_slice.ensures ∙ c.in_ok-normal.ensures.rows.negatives in
+    found_broken c.args.axioms.now c.as_slice.result.now negatives c.in_ok-index.field-0 known c.args.nothing
+    (c.in_ok-index.ensures.first c.args.axioms.now known behind) c.in-Some.index c.index-axioms-index.result c.in_ok-copy.copy
+    c.in-Some.is
+    (found_within c.args.axioms.now c.as_slice.result.now negatives c.in_ok-index.field-0 c.in-Some.index c.in-Some.is
+    c.in_ok-index.ensures.there)
+    c.index-axioms-index.is c.in_ok-copy.ensures
+
+pub returns-then-branch : goal.returns-then-branch
+returns-then-branch c = λ known behind.
+    found_last c.args.axioms.now c.as_slice.result.now (c.as_slice.ensures ∙ c.in_ok-normal.ensures.rows.negatives)
+    c.in_ok-index.field-0 known c.args.nothing (c.in_ok-index.ensures.first c.args.axioms.now known behind)
+    c.in_ok-has_member.field-0 c.in_default.is c.if-branch.true (c.in_ok-has_member.ensures c.args.axioms.now known behind)
+
+pub returns : goal.returns
+returns c = λ known behind.
+    found_sound c.args.axioms.now c.as_slice.result.now (c.as_slice.ensures ∙ c.in_ok-normal.ensures.rows.negatives)
+    c.in_ok-index.field-0 known c.args.nothing (c.in_ok-index.ensures.first c.args.axioms.now known behind)
+    c.in_ok-has_member.field-0 c.in_default.is c.if-branch.false (c.in_ok-has_member.ensures c.args.axioms.now known behind)

@@ -1,0 +1,24 @@
+use Rattle.std.proofs.Common.{List as Items, ◌↔◌, IsTrue, sym, subst}
+use Rattle.std.proofs.lemmas.Result.{IfOk-weaker}
+use Rattle.dl_terms.specs.Broken.{IsMet}
+use Rattle.dl_terms.specs.declared.role.Basic.TheVariants.{Class}
+use Rattle.dl_terms.specs.declared.role.Negative.TheVariants.{Basics}
+use Rattle.dl_terms.specs.declared.axiom.Axiom.{Axiom}
+use Rattle.dl_terms.specs.declared.axiom.Fact.{Fact}
+use Rattle.dl_answer.specs.Probes.{AreBehind}
+use Rattle.dl_answer.specs.Verdicts.{HasMember}
+use Rattle.dl_answer.proofs.BrokenLemmas.{none_named}
+use Rattle.dl_answer.proofs.broken.has_member.Goals as goal
+
+pub returns-in-Some : goal.returns-in-Some
+returns-in-Some c =
+    IfOk-weaker c.is_met.result
+    (λ met. (axioms : Items Axiom) (known : Items Fact) → AreBehind c.args.hier.now c.args.facts.now axioms known
+    → IsTrue met ↔ IsMet axioms known (Basics (Class c.in-Some.class) (Class c.in-Some.class)))
+    (λ has. (axioms : Items Axiom) (known : Items Fact) → AreBehind c.args.hier.now c.args.facts.now axioms known
+    → IsTrue has ↔ HasMember axioms known c.args.nothing)
+    (λ has told axioms known behind. subst (λ o. IsTrue has ↔ HasMember axioms known o) (sym c.in-Some.is)
+    (told axioms known behind)) c.is_met.ensures
+
+pub returns-in-None : goal.returns-in-None
+returns-in-None c = λ axioms known behind. none_named axioms known c.args.nothing c.in-None.is
