@@ -23,17 +23,27 @@ class Measure:
         return f"{self.seconds:.2f} s, {self.processor:.2f} s of the processor, {self.memory / 1e6:.0f} MB of memory"
 
 
-def run(words, folder, output=os.devnull):
-    """Runs a program once. Less memory than this script itself has is not told apart."""
+def measure(output, words):
+    """Runs a program once, and prints its seconds, those of the processor, and the most memory that it had, in bytes."""
     with open(output, "wb") as out:
         start = time.perf_counter()
-        child = subprocess.Popen(words, cwd=folder, stdin=subprocess.DEVNULL, stdout=out)
+        child = subprocess.Popen(words, stdin=subprocess.DEVNULL, stdout=out)
         _, status, usage = os.wait4(child.pid, 0)
         seconds = time.perf_counter() - start
     child.returncode = os.waitstatus_to_exitcode(status)
     if child.returncode != 0:
         sys.exit(f"{words[0]} ended with status {child.returncode}")
-    return Measure(seconds, usage.ru_utime + usage.ru_stime, usage.ru_maxrss * 1024)
+    print(seconds, usage.ru_utime + usage.ru_stime, usage.ru_maxrss * 1024)
+
+
+def run(words, folder, output=os.devnull):
+    """Runs a program once, from a small process of its own: the system counts what the process that starts a program has as memory of
+    that program too, and a script may hold more than the program that it measures. What that small process has, 10 MB, isn't told apart."""
+    small = subprocess.run([sys.executable, __file__, str(output), *map(str, words)], cwd=folder, stdout=subprocess.PIPE, text=True)
+    if small.returncode != 0:
+        sys.exit(small.returncode)
+    seconds, processor, memory = small.stdout.split()
+    return Measure(float(seconds), float(processor), int(memory))
 
 
 def best(words, folder=TOP, output=os.devnull):
@@ -48,3 +58,7 @@ def peer(name):
     if not found:
         print(f"{name}: not installed, so not compared")
     return found
+
+
+if __name__ == "__main__":
+    measure(sys.argv[1], sys.argv[2:])
