@@ -1,6 +1,13 @@
-"""Facts and axioms of the generator's kind, as files for `quest answer` and as numbers for SQLite: 32 classes and 8 object properties in
-two trees, as many draws as individuals, half of them links."""
-import sqlite3, time
+"""Facts and axioms of the generator's kind, as files for `quest answer`, as numbers for SQLite and PostgreSQL, and as facts for clingo: 32
+classes and 8 object properties in two trees, as many draws as individuals, half of them links.
+
+`compare` asks the program and its peers some queries. The program goes from the bytes of three files to the answers, and clingo from those
+of one file; the databases load numbers into indexed tables, and answer by ranges of numbers. The counts of answers are compared. The program
+runs three times, for its best time and the most memory; the others run once."""
+import shutil, sqlite3, sys, tempfile, time
+from pathlib import Path
+import postgres
+from measured import best, run
 
 CLASSES, ROLES = 32, 8
 TYPE = "<http://www.w3.org/1999/02/22-rdf-syntax-ns#type>"
@@ -101,21 +108,112 @@ def links_query(role):
     return f"SELECT DISTINCT one, two FROM links WHERE {among('role', below_role(role))}"
 
 
-def load(members, links):
-    """A database in memory with the facts as numbers, each column of links first in an index, and the seconds that it took."""
-    start = time.process_time()
-    database = sqlite3.connect(":memory:")
-    database.execute("CREATE TABLE members (class INTEGER, who INTEGER)")
-    database.execute("CREATE TABLE links (role INTEGER, one INTEGER, two INTEGER)")
-    database.executemany("INSERT INTO members VALUES (?, ?)", members)
-    database.executemany("INSERT INTO links VALUES (?, ?, ?)", links)
-    for index in ("members (class, who)", "members (who, class)", "links (role, one, two)", "links (one, two, role)", "links (two, one, role)"):
-        database.execute(f"CREATE INDEX '{index}' ON {index}")
-    return database, time.process_time() - start
+CREATE = ["CREATE TABLE members (class INTEGER, who INTEGER)", "CREATE TABLE links (role INTEGER, one INTEGER, two INTEGER)"]
+INDEXES = ["members (class, who)", "members (who, class)", "links (role, one, two)", "links (one, two, role)", "links (two, one, role)"]
 
 
-def answer(database, query):
-    """How many rows a query has, and the seconds that it took."""
-    start = time.process_time()
-    count = len(database.execute(query).fetchall())
-    return count, time.process_time() - start
+class Sqlite:
+    name = "SQLite"
+
+    def __init__(self, members, links):
+        start = time.process_time()
+        self.base = sqlite3.connect(":memory:")
+        for statement in CREATE:
+            self.base.execute(statement)
+        self.base.executemany("INSERT INTO members VALUES (?, ?)", members)
+        self.base.executemany("INSERT INTO links VALUES (?, ?, ?)", links)
+        for index in INDEXES:
+            self.base.execute(f"CREATE INDEX '{index}' ON {index}")
+        self.loading = time.process_time() - start
+
+    def ask(self, sql, body):
+        """How many answers a query has, and the seconds that loading and answering take."""
+        start = time.process_time()
+        count = len(self.base.execute(sql).fetchall())
+        return count, self.loading + time.process_time() - start
+
+    def stop(self):
+        self.base.close()
+
+
+class Postgres(postgres.Server):
+    name = "PostgreSQL"
+
+    def __init__(self, members, links):
+        super().__init__()
+        rows = ["".join("\t".join(map(str, row)) + "\n" for row in table) for table in (members, links)]
+        text = ";\n".join(CREATE) + f";\nCOPY members FROM STDIN;\n{rows[0]}\\.\nCOPY links FROM STDIN;\n{rows[1]}\\.\n"
+        self.loading, _ = self.timed(text + "".join(f"CREATE INDEX ON {index};\n" for index in INDEXES) + "ANALYZE;")
+
+    def ask(self, sql, body):
+        seconds, lines = self.timed(f"SELECT COUNT(*) FROM ({sql}) AS found;")
+        return int(lines[0]), self.loading + seconds
+
+
+class Clingo:
+    name = "clingo"
+
+    def __init__(self, members, links):
+        self.folder = Path(tempfile.mkdtemp())
+        with (self.folder / "facts.lp").open("w") as data:
+            data.writelines(f"m({member_of},{who}).\n" for member_of, who in members)
+            data.writelines(f"l({role},{one},{two}).\n" for role, one, two in links)
+
+    def ask(self, sql, body):
+        (self.folder / "query.lp").write_text(rules(body))
+        # It ends with 30 where there is a model and no other.
+        its = run(["clingo", "-V0", "facts.lp", "query.lp"], self.folder, self.folder / "output", 30)
+        return (self.folder / "output").read_text().count("q("), its.processor
+
+    def stop(self):
+        shutil.rmtree(self.folder)
+
+
+def rules(body):
+    """A query as rules, with those of the classes and the roles that it asks for."""
+    lines = [f"q({body[0]}) :- {body[1]}.", "#show.", f"#show q({body[0]}) : q({body[0]})."]
+    for n in range(CLASSES):
+        if f"c{n}(" in body[1]:
+            classes, subjects = below_class(n)
+            lines += [f"b{n}({k})." for k in classes] + [f"s{n}({k})." for k in subjects]
+            lines += [f"c{n}(X) :- m(C, X), b{n}(C).", f"c{n}(X) :- l(R, X, Y), s{n}(R)."]
+    for n in range(ROLES):
+        if f"p{n}(" in body[1]:
+            lines += [f"r{n}({k})." for k in below_role(n)] + [f"p{n}(X, Y) :- l(R, X, Y), r{n}(R)."]
+    return "\n".join(lines) + "\n"
+
+
+def peers(members, links):
+    found = [Sqlite(members, links)]
+    for kind, installed in ((Postgres, postgres.is_installed()), (Clingo, shutil.which("clingo"))):
+        if installed:
+            found.append(kind(members, links))
+        else:
+            print(f"{kind.name}: not installed, so not compared")
+    return found
+
+
+def compare(program, queries, size=1_000_000, limit="1000000"):
+    """Asks each query: its name, its text, its SQL over the parts {c3} and {p0}, and its head and its body as a rule."""
+    members, links = facts(size)
+    parts = {f"c{n}": members_query(n) for n in range(CLASSES)} | {f"p{n}": links_query(n) for n in range(ROLES)}
+    asked = peers(members, links)
+    try:
+        with tempfile.TemporaryDirectory() as place:
+            folder = Path(place)
+            bytes_of_data = write(folder, members, links)
+            print(f"{len(set(members)) + len(set(links))} facts, {bytes_of_data / 1e6:.0f} MB")
+            for name, text, sql, body in queries:
+                (folder / "query.q").write_text(text + "\n")
+                quest = best([program, "answer", *FILES, "--limit", limit], folder, folder / "output")
+                with (folder / "output").open() as output:
+                    counts = [output.readline(), output.readline()]
+                print(f"{name}: {counts[1].strip()}\n  quest: {quest}, {quest.memory / bytes_of_data:.1f} times the file", flush=True)
+                for peer in asked:
+                    count, seconds = peer.ask(sql.format(**parts), body)
+                    if counts[1] != f"answers {count}\n":
+                        sys.exit(f"{name}: {peer.name} has {count}")
+                    print(f"  {peer.name}: {seconds:.2f} s of the processor", flush=True)
+    finally:
+        for peer in asked:
+            peer.stop()

@@ -24,25 +24,25 @@ class Measure:
 
 
 def measure(output, words):
-    """Runs a program once, and prints its seconds, those of the processor, and the most memory that it had, in bytes."""
+    """Runs a program once, and prints its status, its seconds, those of the processor, and the most memory that it had, in bytes."""
     with open(output, "wb") as out:
         start = time.perf_counter()
         child = subprocess.Popen(words, stdin=subprocess.DEVNULL, stdout=out)
         _, status, usage = os.wait4(child.pid, 0)
         seconds = time.perf_counter() - start
     child.returncode = os.waitstatus_to_exitcode(status)
-    if child.returncode != 0:
-        sys.exit(f"{words[0]} ended with status {child.returncode}")
-    print(seconds, usage.ru_utime + usage.ru_stime, usage.ru_maxrss * 1024)
+    print(child.returncode, seconds, usage.ru_utime + usage.ru_stime, usage.ru_maxrss * 1024)
 
 
-def run(words, folder, output=os.devnull):
-    """Runs a program once, from a small process of its own: the system counts what the process that starts a program has as memory of
-    that program too, and a script may hold more than the program that it measures. What that small process has, 10 MB, isn't told apart."""
-    small = subprocess.run([sys.executable, __file__, str(output), *map(str, words)], cwd=folder, stdout=subprocess.PIPE, text=True)
-    if small.returncode != 0:
-        sys.exit(small.returncode)
-    seconds, processor, memory = small.stdout.split()
+def run(words, folder, output=os.devnull, wanted=0):
+    """Runs a program once, which has to end with the status that is wanted, from a small process of its own: the system counts what the
+    process that starts a program has as memory of that program too, and a script may hold more than the program that it measures. What
+    that small process has, 14 MB, isn't told apart."""
+    words = [str(word) for word in words]
+    small = subprocess.run([sys.executable, __file__, str(output), *words], cwd=folder, stdout=subprocess.PIPE, text=True, check=True)
+    status, seconds, processor, memory = small.stdout.split()
+    if int(status) != wanted:
+        sys.exit(f"{words[0]} ended with status {status}")
     return Measure(float(seconds), float(processor), int(memory))
 
 
