@@ -1,10 +1,14 @@
 -- Facts by predicate: the run of a predicate, and the pairs of facts below what is asked.
 use Rattle.std.proofs.Common.{◌≡◌, ℕ, ◌+◌, ◌<◌, ◌≤◌, ◌↔◌, inl, inr, Bool, true, false, cond, ◌==◌, filter, List, [], ◌∷◌, ◌++◌, map, length, take, drop, get_or, refl, sym, ap, ap₂, subst, ◌∙◌, arith, append-nil}
 use Rattle.std.specs.List.{All, AllWithin, Contains}
+use Rattle.std.specs.List.Sorted.{IsPermutation}
+use Rattle.std.specs.declared.cmp.Ordering.{Ordering}
 use Rattle.std.specs.declared.option.Option.TheVariants.{Some}
 use Rattle.std.proofs.lemmas.Bool.{eq-eqb, eqb-true, ne_eqb}
 use Rattle.std.proofs.lemmas.List.{take-append-drop, get_or-take, get_or-drop, length-take, length-drop}
 use Rattle.std.proofs.lemmas.List.Elements.{All-head, All-tail, Contains-append_left, Contains-append_right, Contains-append_cases, filter-append}
+use Rattle.std.proofs.lemmas.List.Sorted.{Contains-permutation, IsPermutation-sym}
+use Rattle.dl_terms.specs.Sets.{IsSetOf}
 use Rattle.dl_terms.specs.declared.axiom.Fact.{Fact}
 use Rattle.dl_terms.specs.declared.axiom.Fact.TheVariants.{Is, Link}
 use Rattle.dl_hier.specs.declared.below.Below.{Below}
@@ -68,6 +72,17 @@ run_between entries q low high below others within behind =
     (filter-append test middle end ∙ (ap₂ (λ l m. l ++ m) all last ∙ append-nil middle)) in
     sym (ap (filter test) (sym (take-append-drop low entries)) ∙
     (filter-append test front rest ∙ ap₂ (λ l m. l ++ m) none split_rest))
+
+-- the set of a list is that of the list in any order
+pub set_of_moved : {A : Type 0} {cmp : A → A → Ordering} (set moved items : List A) → IsPermutation items moved
+    → IsSetOf cmp set moved → IsSetOf cmp set items
+set_of_moved set moved items same of = record {
+  ascending = of.ascending;
+  members = λ x. (
+    λ h. Contains-permutation moved items x (IsPermutation-sym items moved same) ((of.members x).0 h),
+    λ h. (of.members x).1 (Contains-permutation items moved x same h),
+  );
+}
 
 -- ---- the pairs of the entries of some predicates
 

@@ -9,7 +9,7 @@ use crate::facts::run_of;
 use crate::index::{Entry, FactsByPredicate};
 use dl_hier::Below;
 use dl_terms::{List, NoMemory, Pair, set_of};
-use std::alloc::Global;
+use std::alloc::{AllocError, Global};
 
 /// The set of the pairs of the facts below what is asked: of class facts and of role facts as they stand, and turned
 /// of those of roles that are read backward.
@@ -27,7 +27,18 @@ pub(crate) fn pairs_below(
     push_runs(&mut pairs, classes, below.classes.as_slice(), false)?;
     push_runs(&mut pairs, roles, below.forward.as_slice(), false)?;
     push_runs(&mut pairs, roles, below.backward.as_slice(), true)?;
-    Ok(set_of(pairs))
+    let set = set_of_runs(pairs)?;
+    Ok(set)
+}
+
+/// The set of pairs that ascend run by run, as those of each predicate do where the facts are in order. A stable sort
+/// finds the runs and puts them together, so it is linear where they are few. It takes room for as many pairs.
+fn set_of_runs(pairs: List<Pair>) -> Result<List<Pair>, AllocError>
+    ensures { IfOk result (λ set. IsSetOf pair_cmp set pairs) }
+{
+    let mut sorted = pairs.into_vec();
+    sorted.sort()?;
+    Ok(set_of(List::of(sorted)))
 }
 
 /// Adds the pairs of the entries of some predicates.

@@ -16,4 +16,4 @@ returns c =
     (rw (c.as_slice-classes.ensures.value, c.as_slice.ensures) at c.in_ok-push_runs.ensures)
     (rw (c.as_slice-roles.ensures.value, c.as_slice-2.ensures) at c.in_ok-push_runs-2.ensures)
     (rw (c.as_slice-roles.ensures.value, c.as_slice-3.ensures) at c.in_ok-push_runs-3.ensures) in
-    subst (IsSetOf pair_cmp c.set_of.result) is c.set_of.ensures
+    subst (IsSetOf pair_cmp c.in_ok-set.set) is c.in_ok-set.ensures
