@@ -1,29 +1,34 @@
 -- What is printed is decided by the files, and by the words.
-use Rattle.std.proofs.Common.{◌≡◌, ℕ, ◌<◌, ◌≤◌, List, [], ◌∷◌, ◌++◌, length, Option, None, Some, Result, Ok, Err, IfSome, subst, ap, ◌∙◌, refl, arith}
+use Rattle.std.proofs.Common.{◌≡◌, ℕ, ◌<◌, ◌≤◌, List, [], ◌∷◌, ◌++◌, length, Option, None, Some, Result, Ok, Err, IfSome, subst, sym, ap, ◌∙◌, refl, arith}
 use Rattle.std.specs.List.{Contains}
 use Rattle.dl_io.specs.Count.{HasRisen}
 use Rattle.dl_io.specs.Files.{max_bytes}
-use Rattle.dl_terms.specs.Reply.{Reply, IsReply, found, too_many}
+use Rattle.dl_terms.specs.Reply.{Reply, IsReply, inconsistent, found, too_many}
+use Rattle.dl_terms.specs.declared.axiom.Axiom.{Axiom}
 use Rattle.dl_terms.specs.declared.query.Query.{Query}
 use Rattle.dl_terms.proofs.AnswerLemmas.{IsReply-unique}
 use Rattle.dl_run.specs.Answered.{status_of, text_of, RepliesTo}
 use Rattle.dl_run.specs.Asked.{Gives}
 use Rattle.dl_run.specs.Defined.{IsRefused, AnswerPrints, AnswerOf, Prints, IsUnbuilt}
 use Rattle.dl_run.specs.Defined.IsRefused.{wrong, over_limit}
-use Rattle.dl_run.specs.Defined.AnswerPrints.{refused, answers}
+use Rattle.dl_run.specs.Defined.AnswerPrints.{refused, breaks, answers}
 use Rattle.dl_run.specs.Defined.Prints.{usage, unbuilt, by_answer}
 use Rattle.dl_run.specs.Ending.{Says}
 use Rattle.dl_run.specs.Ending.Says.{done, refused as stopped, read_fault, no_memory}
 use Rattle.dl_run.specs.Files.{IsFileStop}
 use Rattle.dl_run.specs.Input.{Load, IsFirstTooLong, AreInput}
-use Rattle.dl_run.specs.Output.{facts_line, answers_text}
+use Rattle.dl_run.specs.Output.{facts_line, answers_text, broken_text, inconsistent_text}
 use Rattle.dl_run.specs.Refusals.{refusal_text}
-use Rattle.dl_run.specs.Served.{IsAnswered}
+use Rattle.dl_run.specs.Limits.{IsWithinLimits}
 use Rattle.dl_run.specs.Words.{Form, answer, HasForm, AskFor}
 use Rattle.dl_run.specs.Wrong.{IsFirstWrong}
 use Rattle.dl_run.specs.Wrong.IsFirstWrong.{too_long}
 use Rattle.dl_run.specs.declared.answer.Answers.{Answers}
+use Rattle.dl_run.specs.declared.told.Told.{Told}
+use Rattle.dl_run.specs.declared.told.Told.TheVariants.{Found, Inconsistent}
+use Rattle.dl_run.specs.Told.{told_text, Tells}
 use Rattle.dl_run.specs.declared.status.Status.{Status}
+use Rattle.dl_run.specs.declared.status.Status.TheVariants.{Done}
 use Rattle.dl_run.specs.declared.stop.InputFile.{InputFile}
 use Rattle.dl_run.specs.declared.stop.InputFile.TheVariants.{Ontology, Data, Query as QueryFile}
 use Rattle.dl_run.specs.Input.IsFirstTooLong.{ontology_is, data_is, query_is}
@@ -57,6 +62,23 @@ module _ {x y z : List ℕ} {load other : Load} {asked also : Query} {limit : �
   replies_exclude {tuples} first second =
       let equal : too_many ≡ found tuples = same_reply too_many (found tuples) first second in cc
 
+  many_exclude : {broken : Option Axiom} → IsReply load.axioms load.facts load.nothing asked limit too_many
+      → IsReply other.axioms other.facts other.nothing also limit (inconsistent broken) → ⊥
+  many_exclude {broken} first second =
+      let equal : too_many ≡ inconsistent broken = same_reply too_many (inconsistent broken) first second in cc
+
+  broken_exclude : {broken : Option Axiom} {tuples : List (List ℕ)}
+      → IsReply load.axioms load.facts load.nothing asked limit (inconsistent broken)
+      → IsReply other.axioms other.facts other.nothing also limit (found tuples) → ⊥
+  broken_exclude {broken} {tuples} first second =
+      let equal : inconsistent broken ≡ found tuples = same_reply (inconsistent broken) (found tuples) first second in cc
+
+  same_broken : {broken other_broken : Option Axiom} → IsReply load.axioms load.facts load.nothing asked limit (inconsistent broken)
+      → IsReply other.axioms other.facts other.nothing also limit (inconsistent other_broken) → broken ≡ other_broken
+  same_broken {broken} {other_broken} first second =
+      let equal : inconsistent broken ≡ inconsistent other_broken =
+      same_reply (inconsistent broken) (inconsistent other_broken) first second in cc
+
   same_tuples : {tuples others : List (List ℕ)} → IsReply load.axioms load.facts load.nothing asked limit (found tuples)
       → IsReply other.axioms other.facts other.nothing also limit (found others) → tuples ≡ others
   same_tuples {tuples} {others} first second =
@@ -69,8 +91,14 @@ one_refusal (wrong w) (over_limit input served reply) = absurd (wrong_no_answer 
 one_refusal (over_limit input served reply) (wrong w) = absurd (wrong_no_answer w input served)
 one_refusal (over_limit a b c) (over_limit d e f) = refl
 
+refused_or_broken : {x y z : List ℕ} {limit : ℕ} {refusal : Refusal} {load : Load} {asked : Query} {broken : Option Axiom}
+    → IsRefused x y z limit refusal → AreInput x y z load asked → IsWithinLimits load
+    → IsReply load.axioms load.facts load.nothing asked limit (inconsistent broken) → ⊥
+refused_or_broken (wrong w) input served reply = wrong_no_answer w input served
+refused_or_broken (over_limit again also many) input served reply = many_exclude again input many reply
+
 refused_or_answered : {x y z : List ℕ} {limit : ℕ} {refusal : Refusal} {load : Load} {asked : Query} {tuples : List (List ℕ)}
-    → IsRefused x y z limit refusal → AreInput x y z load asked → IsAnswered load asked
+    → IsRefused x y z limit refusal → AreInput x y z load asked → IsWithinLimits load
     → IsReply load.axioms load.facts load.nothing asked limit (found tuples) → ⊥
 refused_or_answered (wrong w) input served reply = wrong_no_answer w input served
 refused_or_answered (over_limit again also many) input served reply = replies_exclude again input many reply
@@ -80,6 +108,17 @@ pub one_output : {x y z : List ℕ} {limit : ℕ} {status other : Status} {text 
     → AnswerPrints x y z limit status text → AnswerPrints x y z limit other also → (status ≡ other) × (text ≡ also)
 one_output (refused r) (refused s) = (refl, ap refusal_text (one_refusal r s))
 one_output (refused r) (answers input served reply) = absurd (refused_or_answered r input served reply)
+one_output (refused r) (breaks input served reply) = absurd (refused_or_broken r input served reply)
+one_output (breaks input served reply) (refused r) = absurd (refused_or_broken r input served reply)
+one_output (breaks input served reply) (answers again also more) = absurd (broken_exclude input again reply more)
+one_output (answers input served reply) (breaks again also more) = absurd (broken_exclude again input more reply)
+one_output (breaks {load = load} {broken = a} input served reply) (breaks {load = other} {broken = b} again also more) =
+    let same = (AreInput-unique input again).0 in (
+      refl,
+      ap (λ (l : Load). facts_line (length l.facts) l.skipped ++ inconsistent_text (broken_text l.names a)) same
+          ∙ ap (λ n. facts_line (length other.facts) other.skipped ++ inconsistent_text (broken_text other.names n))
+          (same_broken input again reply more),
+    )
 one_output (answers input served reply) (refused r) = absurd (refused_or_answered r input served reply)
 one_output (answers {load = load} {tuples = tuples} input served reply) (answers {load = other} {tuples = others} again also more) =
     let same = (AreInput-unique input again).0 in (
@@ -132,6 +171,15 @@ one_output_of_words words file_of (by_answer {ontology = o} {facts = d} {query =
 one_output_of_words words file_of (by_answer {ontology = o} {facts = d} {query = q} {limit = l} has h) (by_answer other k) =
     one_output h (for_form words o d q l has file_of (by_answer other k))
 
+-- what is told is printed
+prints_told : {x y z : List ℕ} {limit : ℕ} (load : Load) (asked : Query) → AreInput x y z load asked → IsWithinLimits load
+    → (told : Told) → Tells load.names (IsReply load.axioms load.facts load.nothing asked limit) told
+    → AnswerPrints x y z limit Done (facts_line (length load.facts) load.skipped ++ told_text load.names told)
+prints_told load asked input limits (Found tuples) reply = answers input limits reply
+prints_told {x} {y} {z} {limit} load asked input limits (Inconsistent text) (broken, reply, is) =
+    subst (λ t. AnswerPrints x y z limit Done (facts_line (length load.facts) load.skipped ++ inconsistent_text t)) (sym is)
+    (breaks input limits reply)
+
 module _ (o d q : List ℕ) (limit : ℕ) (told : Option (List ℕ → List ℕ)) (Rose : Type 0) where
   -- a file that is too long, a fault of reading, or want of memory
   pub says_file_stop : (which : InputFile) (name : List ℕ) (Fault : Type 0) (stop : Stop) (output : Result Answers Stop) → output ≡ Err stop
@@ -157,10 +205,10 @@ module _ (o d q : List ℕ) (limit : ℕ) (told : Option (List ℕ → List ℕ)
     says_stop stops.NoMemory output is first = rw is no_memory
 
     -- the answers to what the files ask, or that they are too many
-    pub says_replies : (load : Load) (asked : Query) → AreInput x y z load asked → IsAnswered load asked
+    pub says_replies : (load : Load) (asked : Query) → AreInput x y z load asked → IsWithinLimits load
         → (output : Result Answers Stop) → RepliesTo load asked limit output → Says (AnswerOf o d q limit) told Rose (status_of output) (text_of output)
     says_replies load asked input served (Ok given) replies =
-        done (if_some told (λ file_of input. rw (replies.1, replies.2, replies.3) (answers input served replies.0))
+        done (if_some told (λ file_of input. rw (replies.1, replies.2, replies.3) (prints_told load asked input served given.told replies.0))
         (at_files told o d q (λ x y z. AreInput x y z load asked) ex ey ez input))
     says_replies load asked input served (Err (stops.Refused refusal)) replies =
         stopped (if_some told (λ file_of input. rw replies.0 (refused (over_limit input served replies.1)))

@@ -1,7 +1,6 @@
 pub mod OptionLemmas
 pub mod WordLemmas
 pub mod SignatureLemmas
-pub mod NegativeLemmas
 pub mod LimitLemmas
 pub mod NamedLemmas
 pub mod InputLemmas
@@ -10,3 +9,4 @@ pub mod OutputLemmas
 pub mod EndingLemmas
 pub mod FileLemmas
 pub mod CommandLemmas
+pub mod ToldLemmas

@@ -1,15 +1,14 @@
 -- The limits of a load: what is wrong with it is one thing, and how much is told of what passes a limit.
 use Rattle.std.proofs.Common.{◌≡◌, ◌≢◌, ℕ, zero, suc, ◌+◌, ◌-◌, ◌^◌, ◌<◌, ◌≤◌, inl, inr, min, List, [], ◌∷◌, ◌++◌, length, AllPairs, Contains, refl, sym, ap, subst, arith, length-append}
 use Rattle.std.proofs.lemmas.List.Elements.{Contains-append_left, Contains-append_right, Contains-append_cases}
-use Rattle.dl_terms.specs.declared.query.Query.{Query}
 use Rattle.dl_terms.proofs.MemberLemmas.{Contains-first, Contains-later, Contains-cons, Contains-nil}
 use Rattle.dl_normal.specs.Filled.{HasDistinct, filled_pairs}
 use Rattle.dl_normal.specs.Weight.{total_weight}
-use Rattle.dl_answer.specs.Replies.{max_weight, IsServed}
+use Rattle.dl_answer.specs.Replies.{max_weight}
 use Rattle.dl_run.specs.Input.{Load}
-use Rattle.dl_run.specs.Served.{HasPredicateCount, IsAnswered, told}
+use Rattle.dl_run.specs.Limits.{HasPredicateCount, IsWithinLimits, told}
 use Rattle.dl_run.specs.Wrong.{IsLoadWrong}
-use Rattle.dl_run.specs.Wrong.IsLoadWrong.{not_built, too_heavy, too_many_predicates}
+use Rattle.dl_run.specs.Wrong.IsLoadWrong.{too_heavy, too_many_predicates}
 use Rattle.dl_run.specs.declared.stop.Refusal.{Refusal}
 use Rattle.dl_run.specs.declared.stop.Refusal.TheVariants.{TooHeavy, TooManyPredicates}
 
@@ -67,46 +66,39 @@ one_predicate_count load n m one two =
 
 -- ---- what is wrong with a load
 
-pub one_load_wrong : {load : Load} {asked : Query} {one two : Refusal} → IsLoadWrong load asked one → IsLoadWrong load asked two → one ≡ two
-one_load_wrong (not_built a) (not_built b) = refl
-one_load_wrong (not_built a) (too_heavy served b) = absurd (a served)
-one_load_wrong (not_built a) (too_many_predicates served b c d) = absurd (a served)
-one_load_wrong (too_heavy served a) (not_built b) = absurd (b served)
-one_load_wrong (too_heavy served a) (too_heavy also b) = refl
-one_load_wrong (too_heavy served a) (too_many_predicates also b c d) = absurd (omega (arith, a, b))
-one_load_wrong (too_many_predicates served a c d) (not_built b) = absurd (b served)
-one_load_wrong (too_many_predicates served a c d) (too_heavy also b) = absurd (omega (arith, a, b))
-one_load_wrong {load} {asked} (too_many_predicates {count = n} served a c d) (too_many_predicates {count = m} also b e f) =
+pub one_load_wrong : {load : Load} {one two : Refusal} → IsLoadWrong load one → IsLoadWrong load two → one ≡ two
+one_load_wrong (too_heavy a) (too_heavy b) = refl
+one_load_wrong (too_heavy a) (too_many_predicates b c d) = absurd (omega (arith, a, b))
+one_load_wrong (too_many_predicates a c d) (too_heavy b) = absurd (omega (arith, a, b))
+one_load_wrong {load} (too_many_predicates {count = n} a c d) (too_many_predicates {count = m} b e f) =
     ap (λ k. TooManyPredicates (told k)) (one_predicate_count load n m c e)
 
-pub wrong_or_answered : {load : Load} {asked : Query} {refusal : Refusal} → IsLoadWrong load asked refusal → IsAnswered load asked → ⊥
-wrong_or_answered (not_built a) answered = a answered.served
-wrong_or_answered (too_heavy served a) answered = omega (arith, a, answered.limits.weight)
-wrong_or_answered {load} (too_many_predicates {count = n} served a c d) answered =
-    omega (arith, d, answered.limits.few, one_predicate_count load n answered.limits.predicates c answered.limits.counted)
+pub wrong_or_within : {load : Load} {refusal : Refusal} → IsLoadWrong load refusal → IsWithinLimits load → ⊥
+wrong_or_within (too_heavy a) limits = omega (arith, a, limits.weight)
+wrong_or_within {load} (too_many_predicates {count = n} a c d) limits =
+    omega (arith, d, limits.few, one_predicate_count load n limits.predicates c limits.counted)
 
 -- ---- what is told
 
-module _ (load : Load) (asked : Query) (served : IsServed load.axioms asked load.nothing) where
-  pub heavy : (weight : ℕ) → weight ≡ min (total_weight load.axioms) (2 ^ 64 - 1) → 65536 < weight → IsLoadWrong load asked (TooHeavy weight)
+module _ (load : Load) where
+  pub heavy : (weight : ℕ) → weight ≡ min (total_weight load.axioms) (2 ^ 64 - 1) → 65536 < weight
+      → IsLoadWrong load (TooHeavy weight)
   heavy weight is over =
-      subst (λ w. IsLoadWrong load asked (TooHeavy w)) (sym is) (too_heavy served (omega (arith, is, over)))
+      subst (λ w. IsLoadWrong load (TooHeavy w)) (sym is) (too_heavy (omega (arith, is, over)))
 
   module _ (weight : ℕ) (weight_is : weight ≡ min (total_weight load.axioms) (2 ^ 64 - 1)) (light : weight ≤ 65536) (n count : ℕ)
       (counted : HasPredicateCount load count) (told_is : n ≡ told count) where
     light_enough : total_weight load.axioms ≤ max_weight
     light_enough = omega (arith, weight_is, light)
 
-    pub many : 4096 < n → IsLoadWrong load asked (TooManyPredicates n)
+    pub many : 4096 < n → IsLoadWrong load (TooManyPredicates n)
     many over =
-        subst (λ k. IsLoadWrong load asked (TooManyPredicates k)) (sym told_is)
-        (too_many_predicates served light_enough counted (omega (arith, told_is, over)))
+        subst (λ k. IsLoadWrong load (TooManyPredicates k)) (sym told_is)
+        (too_many_predicates light_enough counted (omega (arith, told_is, over)))
 
-    pub answered : n ≤ 4096 → IsAnswered load asked
-    answered few = record {
-      served = served;
-      limits = record { weight = light_enough; predicates = count; counted = counted; few = omega (arith, told_is, few) };
-    }
+    pub within_limits : n ≤ 4096 → IsWithinLimits load
+    within_limits few =
+        record { weight = light_enough; predicates = count; counted = counted; few = omega (arith, told_is, few) }
 
 -- the count of predicates, as it is summed up
 pub counted_told : (load : Load) (cs rs fs first n : ℕ) → cs ≡ length load.signature.classes → rs ≡ length load.signature.roles

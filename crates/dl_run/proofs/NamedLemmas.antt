@@ -1,10 +1,11 @@
 -- What other names keep of axioms and queries, and the names of certain answers.
-use Rattle.std.proofs.Common.{◌≡◌, ℕ, ◌<◌, ◌&&◌, not, List, [], ◌∷◌, ◌++◌, map, length, get_or, flat_map, filter, nat_eq, Option, All, Contains, refl, sym, ap, ap₂, subst, ◌∙◌, inl, inr, arith, length-append}
+use Rattle.std.proofs.Common.{◌≡◌, ℕ, ◌<◌, ◌&&◌, not, List, [], ◌∷◌, ◌++◌, map, length, get_or, flat_map, filter, filter_map, nat_eq, Option, Some, None, IfSome, All, Contains, refl, sym, ap, ap₂, subst, ◌∙◌, inl, inr, arith}
 use Rattle.std.specs.List.{list_any, range_with_len}
 use Rattle.std.proofs.lemmas.List.{length-map}
 use Rattle.std.proofs.lemmas.List.Elements.{All-map, All-weaker, All-contains, Contains-get_or, Contains-append_left, Contains-append_right, Contains-append_cases}
 use Rattle.dl_terms.specs.Fillers.{HasNoFiller}
-use Rattle.dl_terms.specs.Occurring.{fact_names}
+use Rattle.dl_terms.specs.NormalForm.{axiom_rows, as_negative, axiom_negatives, nothing_negative, negatives}
+use Rattle.dl_terms.specs.Occurring.{axiom_names, fact_names}
 use Rattle.dl_terms.specs.Order.{axiom_cmp}
 use Rattle.dl_terms.specs.Queries.{term_variables, atom_variables, body_variables, IsWellFormed}
 use Rattle.dl_terms.specs.Renamed.{renamed_axiom, renamed_term, renamed_atom, renamed_query}
@@ -18,6 +19,8 @@ use Rattle.dl_terms.specs.Reply.IsReply.{is_found, is_inconsistent}
 use Rattle.dl_terms.specs.declared.role.Role.{Role}
 use Rattle.dl_terms.specs.declared.role.Basic.{Basic}
 use Rattle.dl_terms.specs.declared.role.Basic.TheVariants.{Class}
+use Rattle.dl_terms.specs.declared.role.Negative.{Negative}
+use Rattle.dl_terms.specs.declared.role.Negative.TheVariants.{Basics}
 use Rattle.dl_terms.specs.declared.axiom.Axiom.{Axiom}
 use Rattle.dl_terms.specs.declared.axiom.Fact.{Fact}
 use Rattle.dl_terms.specs.declared.axiom.Fact.TheVariants as fact
@@ -27,11 +30,14 @@ use Rattle.dl_terms.specs.declared.query.Atom.{Atom}
 use Rattle.dl_terms.specs.declared.query.Atom.TheVariants as atom
 use Rattle.dl_terms.specs.declared.query.Query.{Query}
 use Rattle.dl_terms.proofs.FillerLemmas.{renamed_axiom-named}
-use Rattle.dl_terms.proofs.MemberLemmas.{Contains-one, Contains-nil}
+use Rattle.dl_terms.proofs.MemberLemmas.{Contains-one, Contains-nil, Contains-middle}
 use Rattle.dl_terms.proofs.StructureLemmas.{individual-child}
 use Rattle.dl_hier.proofs.MemberLemmas.{Contains-map, Contains-map_of, Contains-flat_map, Contains-flat_map_of}
-use Rattle.dl_answer.specs.Replies.{IsServed}
 use Rattle.dl_answer.proofs.NameLemmas.{at_individual}
+use Rattle.dl_names.specs.NameList.{Text}
+use Rattle.dl_run.specs.Told.{HasNamesBelow, Tells}
+use Rattle.dl_run.specs.declared.told.Told.{Told}
+use Rattle.dl_run.specs.declared.told.Told.TheVariants.{Found, Inconsistent}
 
 -- ---- other names
 
@@ -152,8 +158,41 @@ module _ (axioms : List Axiom) (facts : List Fact) (n : ℕ) (all : All (λ f. A
   reply_named q formed tuples (is_found broken certain few) k d h =
       certain_named q formed (get_or tuples k d) ((certain.exact (get_or tuples k d)).0 (Contains-get_or tuples k d h))
 
--- what is answered so far isn't broken
-pub not_broken : {axioms : List Axiom} {facts : List Fact} {nothing : Option ℕ} {limit : ℕ} {broken : Option Axiom} (q : Query)
-    → IsServed axioms q nothing → IsReply axioms facts nothing q limit (inconsistent broken) → ⊥
-not_broken q served (is_inconsistent {broken = broken} first) =
-    omega (arith, ap length (sym served.negatives ∙ first.is_there), length-append first.before ((broken, first.negative) ∷ first.after))
+-- what is told of a reply has names of the facts
+pub told_named : (axioms : List Axiom) (facts : List Fact) (names : List Text) → All (λ f. All (λ name. name < length names) (fact_names f)) facts
+    → {nothing : Option ℕ} {limit : ℕ} (q : Query) → IsWellFormed q → (told : Told) → Tells names (IsReply axioms facts nothing q limit) told
+    → HasNamesBelow (length names) told
+told_named axioms facts names all q formed (Found tuples) reply =
+    reply_named axioms facts (length names) all q formed tuples.tuples reply
+told_named axioms facts names all q formed (Inconsistent text) reply = tt
+
+-- ---- names of a broken axiom
+
+module _ (axioms : List Axiom) (n : ℕ) (all : All (λ a. All (λ name. name < n) (axiom_names a)) axioms) where
+  abbrev HasNames : Option Axiom → Type 0
+  HasNames broken = IfSome broken (λ a. All (λ name. name < n) (axiom_names a))
+
+  -- the axiom beside a negative is one of them
+  beside_named : {nothing : Option ℕ} (broken : Option Axiom) (r : Negative) → Contains (negatives axioms nothing) (broken, r) → HasNames broken
+  beside_named {nothing} broken r c =
+      elim (Contains-append_cases (flat_map axiom_negatives axioms) (nothing_negative nothing) (broken, r) c) [
+        | inl of_axiom ↦ by_axiom (Contains-flat_map axiom_negatives axioms (broken, r) of_axiom)
+        | inr of_nothing ↦ by_nothing nothing of_nothing
+      ]
+    where
+      by_axiom : (a : Axiom) × Contains axioms a × Contains (axiom_negatives a) (broken, r) → HasNames broken
+      by_axiom (a, there, beside) =
+          let m = Contains-map (λ k. (Some a, k)) (filter_map as_negative (axiom_rows a)) (broken, r) beside in
+          subst HasNames (ap (λ p. p.0) m.2)
+          (All-contains (λ (x : Axiom). All (λ name. name < n) (axiom_names x)) axioms a all there)
+
+      by_nothing : (nothing : Option ℕ) → Contains (nothing_negative nothing) (broken, r) → HasNames broken
+      by_nothing None c = absurd (Contains-nil (broken, r) c)
+      by_nothing (Some k) c = subst HasNames (ap (λ p. p.0) (Contains-one (None, Basics (Class k) (Class k)) (broken, r) c)) tt
+
+  pub broken_named : {facts : List Fact} {nothing : Option ℕ} {q : Query} {limit : ℕ} {broken : Option Axiom}
+      → IsReply axioms facts nothing q limit (inconsistent broken) → HasNames broken
+  broken_named {nothing = nothing} (is_inconsistent {broken = broken} first) =
+      beside_named {nothing} broken first.negative
+      (subst (λ l. Contains l (broken, first.negative)) (sym first.is_there)
+      (Contains-middle first.before first.after (broken, first.negative)))

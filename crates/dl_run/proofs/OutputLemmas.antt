@@ -114,17 +114,16 @@ module _ (names : List Text) (tuple : List ℕ) (j : ℕ) (h : j < length tuple)
         (TakesPrefix-front before now _ _
         (subst (TakesPrefix before now) (sym names_next) (TakesPrefix-append before between now _ _ so_far (subst (TakesPrefix between now) piece takes))))
 
--- the two lines with counts, as they are printed
-abbrev pub counts_text : List ℕ → List ℕ → List ℕ → List ℕ
-counts_text facts skipped count = codes "facts " ++ (facts ++ (codes " skipped " ++ (skipped ++ (codes "\nanswers " ++ (count ++ 10 ∷ [])))))
+-- the line of facts, as it is printed
+pub facts_pieces : (facts skipped : ℕ) (f k : List ℕ) → f ≡ decimal facts → k ≡ decimal skipped
+    → codes "facts " ++ (f ++ (codes " skipped " ++ (k ++ 10 ∷ []))) ≡ facts_line facts skipped
+facts_pieces facts skipped f k is_f is_k = λ i. codes "facts " ++ (is_f i ++ (codes " skipped " ++ (is_k i ++ 10 ∷ [])))
 
--- and the lines of the answers behind them
-module _ (names : List Text) (facts skipped : ℕ) (found : List (List ℕ)) (f k n : List ℕ) (is_f : f ≡ decimal facts) (is_k : k ≡ decimal skipped)
-    (is_n : n ≡ decimal (length found)) where
-  parts : (f k n l : List ℕ) → counts_text f k n ++ l ≡ (codes "facts " ++ (f ++ (codes " skipped " ++ (k ++ 10 ∷ [])))) ++ (codes "answers " ++ (n ++ 10 ∷ l))
-  parts f k n l = simp append_assoc
-
-  pub output_text : counts_text f k n ++ flat_map (tuple_line names) found ≡ facts_line facts skipped ++ answers_text names found
-  output_text =
-      parts f k n (flat_map (tuple_line names) found)
-      ∙ (λ i. (codes "facts " ++ (is_f i ++ (codes " skipped " ++ (is_k i ++ 10 ∷ [])))) ++ (codes "answers " ++ (is_n i ++ 10 ∷ flat_map (tuple_line names) found)))
+-- the count of the answers, and the lines of the answers behind it
+pub found_pieces : (names : List Text) (found : List (List ℕ)) (n : List ℕ) → n ≡ decimal (length found)
+    → (codes "answers " ++ (n ++ 10 ∷ [])) ++ flat_map (tuple_line names) found ≡ answers_text names found
+found_pieces names found n is =
+    parts n (flat_map (tuple_line names) found) ∙ (λ i. codes "answers " ++ (is i ++ 10 ∷ flat_map (tuple_line names) found))
+  where
+    parts : (n l : List ℕ) → (codes "answers " ++ (n ++ 10 ∷ [])) ++ l ≡ codes "answers " ++ (n ++ 10 ∷ l)
+    parts n l = simp append_assoc

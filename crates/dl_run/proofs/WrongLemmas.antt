@@ -22,7 +22,7 @@ use Rattle.dl_query.proofs.ResultLemmas.{fault-one, not-both}
 use Rattle.dl_run.specs.Asked.{Gives, IsJudged, IsMade, IsNumbered, load_of}
 use Rattle.dl_run.specs.Input.{Load, IsFirstTooLong, AllFit, AreRead, AreInput}
 use Rattle.dl_run.specs.Input.IsFirstTooLong.{ontology_is, data_is, query_is}
-use Rattle.dl_run.specs.Served.{IsAnswered}
+use Rattle.dl_run.specs.Limits.{IsWithinLimits}
 use Rattle.dl_run.specs.Stops.{stop_of_ontology, stop_of_data, stop_of_query}
 use Rattle.dl_run.specs.Wrong.{IsLoadWrong, IsFirstWrong}
 use Rattle.dl_run.specs.Wrong.IsFirstWrong.{too_long, in_ontology, in_data, in_query, in_load}
@@ -33,7 +33,7 @@ use Rattle.dl_run.specs.declared.stop.Refusal.TheVariants.{TooLong}
 use Rattle.dl_run.specs.declared.stop.Stop.{Stop}
 use Rattle.dl_run.specs.declared.stop.Stop.TheVariants.{Refused, ReadFault, NoMemory}
 use Rattle.dl_run.proofs.InputLemmas.{AreRead-unique, AreInput-unique, input_from}
-use Rattle.dl_run.proofs.LimitLemmas.{one_load_wrong, wrong_or_answered}
+use Rattle.dl_run.proofs.LimitLemmas.{one_load_wrong, wrong_or_within}
 
 same_refusal : {one two : Refusal} (a b : Stop) → a ≡ Refused one → b ≡ Refused two → a ≡ b → one ≡ two
 same_refusal a b x y z = cc
@@ -82,21 +82,18 @@ module _ {o d q : List ℕ} where
 
   -- where something is wrong, there is nothing that is answered
   pub wrong_no_answer : {load : Load} {asked : Query} {refusal : Refusal} → IsFirstWrong o d q refusal → AreInput o d q load asked
-      → IsAnswered load asked → ⊥
-  wrong_no_answer (too_long long) input answered = long_or_fit long input.are_read.fit
-  wrong_no_answer (in_ontology fit first is) input answered = value_no_owl_fault input.are_read.is_ontology first
-  wrong_no_answer (in_data fit value first is) input answered = read_no_first input.are_read value first
-  wrong_no_answer (in_query read first is) input answered = read_no_query input read first
-  wrong_no_answer {load} {asked} {refusal} (in_load {load = other} {asked = also} again wrong) input answered =
-      let same = AreInput-unique again input in
-      wrong_or_answered (subst (λ (u : Query). IsLoadWrong load u refusal) same.1
-      (subst (λ (l : Load). IsLoadWrong l also refusal) same.0 wrong)) answered
+      → IsWithinLimits load → ⊥
+  wrong_no_answer (too_long long) input limits = long_or_fit long input.are_read.fit
+  wrong_no_answer (in_ontology fit first is) input limits = value_no_owl_fault input.are_read.is_ontology first
+  wrong_no_answer (in_data fit value first is) input limits = read_no_first input.are_read value first
+  wrong_no_answer (in_query read first is) input limits = read_no_query input read first
+  wrong_no_answer {load} {asked} {refusal} (in_load {load = other} {asked = also} again wrong) input limits =
+      wrong_or_within (subst (λ (l : Load). IsLoadWrong l refusal) (AreInput-unique again input).0 wrong) limits
 
   same_load_wrong : {load other : Load} {asked also : Query} {one two : Refusal} → AreInput o d q load asked → AreInput o d q other also
-      → IsLoadWrong load asked one → IsLoadWrong other also two → one ≡ two
+      → IsLoadWrong load one → IsLoadWrong other two → one ≡ two
   same_load_wrong {load} {other} {asked} {also} {one} {two} input again wrong more =
-      let same = AreInput-unique again input in
-      one_load_wrong wrong (subst (λ (u : Query). IsLoadWrong load u two) same.1 (subst (λ (l : Load). IsLoadWrong l also two) same.0 more))
+      one_load_wrong wrong (subst (λ (l : Load). IsLoadWrong l two) (AreInput-unique again input).0 more)
 
   -- one thing is the first that is wrong
   pub one_wrong : {one two : Refusal} → IsFirstWrong o d q one → IsFirstWrong o d q two → one ≡ two
@@ -199,8 +196,8 @@ memory_stops o d q stop r is made = rw (is, made) tt
 module _ (o d q : List ℕ) (document : Document) (listed : Triples) (before met : List Text) (read : Query) (asked : Asked)
     (are : AreRead o d q document listed.facts listed.skipped before) (value : IsValue q before read met)
     (numbered : IsNumbered met document listed read asked) where
-  pub gives_asked : IsAnswered (load_of asked) asked.query → IsMade asked → Gives o d q (Ok asked)
-  gives_asked answered made = (input_from o d q document listed before met read asked are value numbered, answered, made)
+  pub gives_asked : IsWithinLimits (load_of asked) → IsMade asked → Gives o d q (Ok asked)
+  gives_asked limits made = (input_from o d q document listed before met read asked are value numbered, limits, made)
 
   pub gives_stop : (stop : Stop) (r : Result Asked Stop) → r ≡ Err stop → IsJudged asked (Err stop) → Gives o d q r
   gives_stop stop r is judged = rw is (by stop judged)

@@ -13,14 +13,17 @@ use Rattle.dl_run.specs.declared.answer.Asked.{Asked}
 use Rattle.dl_run.specs.declared.stop.Stop.{Stop}
 use Rattle.dl_run.specs.declared.stop.Stop.TheVariants.{Refused, ReadFault, NoMemory}
 use Rattle.dl_run.specs.Input.{Load, IsNumberOf, AreInput}
-use Rattle.dl_run.specs.Served.{IsAnswered}
+use Rattle.dl_run.specs.Limits.{IsWithinLimits}
 use Rattle.dl_run.specs.Signature.{IsSignatureOf}
 use Rattle.std.specs.List.{All}
 use Rattle.dl_terms.specs.Fillers.{HasNoFiller}
 use Rattle.dl_terms.specs.Queries.{IsWellFormed}
 use Rattle.dl_hier.specs.Rows.{HasNames}
 use Rattle.dl_answer.specs.Facts.{HasPredicates}
+use Rattle.dl_answer.specs.Replies as answer
 use Rattle.dl_answer.specs.Replies.{normal_form}
+use Rattle.dl_answer.specs.declared.answer.Answer.{Answer}
+use Rattle.dl_answer.specs.declared.fault.AskFault.{AskFault}
 use Rattle.dl_run.specs.Wrong.{IsLoadWrong, IsFirstWrong}
 
 abbrev pub load_of : Asked → Load
@@ -41,18 +44,22 @@ pub record IsMade (asked : Asked) : Type 0 where
   pub has_predicates : HasPredicates asked.signature asked.facts
   pub well_formed : IsWellFormed asked.query
 
+-- an answer is the defined reply to what is asked
+abbrev pub AnswersAsked : Asked → ℕ → Result Answer AskFault → Type 0
+AnswersAsked asked limit = answer.RepliesTo asked.axioms asked.facts asked.nothing asked.query limit 1
+
 -- what the files give, the first thing that is wrong with them, or want of memory
 abbrev pub Gives : List ℕ → List ℕ → List ℕ → Result Asked Stop → Type 0
 Gives ontology facts query (Ok asked) =
-    AreInput ontology facts query (load_of asked) asked.query × IsAnswered (load_of asked) asked.query × IsMade asked
+    AreInput ontology facts query (load_of asked) asked.query × IsWithinLimits (load_of asked) × IsMade asked
 Gives ontology facts query (Err (Refused refusal)) = IsFirstWrong ontology facts query refusal
 Gives ontology facts query (Err ReadFault) = ⊥
 Gives ontology facts query (Err NoMemory) = Unit {0}
 
--- what was read is answered, what is wrong with it, or want of memory
+-- what was read is within the limits, what is wrong with it, or want of memory
 abbrev pub IsJudged : Asked → Result (Unit {0}) Stop → Type 0
-IsJudged asked (Ok _) = IsAnswered (load_of asked) asked.query
-IsJudged asked (Err (Refused refusal)) = IsLoadWrong (load_of asked) asked.query refusal
+IsJudged asked (Ok _) = IsWithinLimits (load_of asked)
+IsJudged asked (Err (Refused refusal)) = IsLoadWrong (load_of asked) refusal
 IsJudged asked (Err ReadFault) = ⊥
 IsJudged asked (Err NoMemory) = Unit {0}
 

@@ -4,11 +4,11 @@ pub mod Texts
 pub mod Pieces
 pub mod Signature
 pub mod Input
-pub mod Served
-pub mod Positive
+pub mod Limits
 pub mod Wrong
 pub mod Files
 pub mod Output
+pub mod Told
 pub mod Defined
 pub mod Ending
 pub mod Answered

@@ -12,6 +12,10 @@ usage_text =
     ++ (line (codes "       quest run ONTOLOGY DATA STREAMS [--shards N]")
     ++ line (codes "       quest gen NUMBER SIZE"))
 
+-- the words have a form that isn't built yet
+abbrev pub not_built_text : List ℕ
+not_built_text = line (codes "refused: not built")
+
 -- a file could not be read
 abbrev pub read_fault_text : List ℕ
 read_fault_text = line (codes "read fault")

@@ -1,5 +1,5 @@
 -- The first thing that is wrong with the files of the command `answer`. The order is this project's own: a file that is
--- too long, a fault of the ontology, of the data, of the query, then what isn't built yet, and the limits of the load.
+-- too long, a fault of the ontology, of the data, of the query, then the limits of the load.
 use Rattle.std.specs.Prelude.{◌≡◌, ℕ, ◌<◌, ◌≤◌, List, []}
 use Rattle.dl_names.specs.NameList.{Text}
 use Rattle.dl_terms.specs.declared.axiom.Fact.{Fact}
@@ -14,23 +14,20 @@ use Rattle.dl_query.specs.declared.fault.QueryFault.{QueryFault}
 use Rattle.dl_query.specs.Queries.{HasFault}
 use Rattle.dl_normal.specs.Weight.{total_weight}
 use Rattle.dl_hier.specs.Predicates.{max_predicates}
-use Rattle.dl_answer.specs.Replies.{max_weight, IsServed}
+use Rattle.dl_answer.specs.Replies.{max_weight}
 use Rattle.dl_run.specs.declared.stop.InputFile.{InputFile}
 use Rattle.dl_run.specs.declared.stop.Refusal.{Refusal}
-use Rattle.dl_run.specs.declared.stop.Refusal.TheVariants.{TooLong, NotBuilt, TooHeavy, TooManyPredicates}
+use Rattle.dl_run.specs.declared.stop.Refusal.TheVariants.{TooLong, TooHeavy, TooManyPredicates}
 use Rattle.dl_run.specs.declared.stop.Stop.TheVariants.{Refused}
 use Rattle.dl_run.specs.Stops.{stop_of_ontology, stop_of_data, stop_of_query}
 use Rattle.dl_run.specs.Input.{Load, IsFirstTooLong, AllFit, AreRead, AreInput}
-use Rattle.dl_run.specs.Served.{HasPredicateCount, told}
+use Rattle.dl_run.specs.Limits.{HasPredicateCount, told}
 
--- what is wrong with a load and a query: they aren't built yet, the axioms are too heavy, or there are too many
--- predicates
-pub data IsLoadWrong (load : Load) (asked : Query) : Refusal → Type 0 where
-  not_built : (IsServed load.axioms asked load.nothing → ⊥) → IsLoadWrong load asked NotBuilt
-  too_heavy : IsServed load.axioms asked load.nothing → max_weight < total_weight load.axioms
-      → IsLoadWrong load asked (TooHeavy (told (total_weight load.axioms)))
-  too_many_predicates : {count : ℕ} → IsServed load.axioms asked load.nothing → total_weight load.axioms ≤ max_weight
-      → HasPredicateCount load count → max_predicates < count → IsLoadWrong load asked (TooManyPredicates (told count))
+-- what is wrong with a load: the axioms are too heavy, or there are too many predicates
+pub data IsLoadWrong (load : Load) : Refusal → Type 0 where
+  too_heavy : max_weight < total_weight load.axioms → IsLoadWrong load (TooHeavy (told (total_weight load.axioms)))
+  too_many_predicates : {count : ℕ} → total_weight load.axioms ≤ max_weight → HasPredicateCount load count
+      → max_predicates < count → IsLoadWrong load (TooManyPredicates (told count))
 
 -- the first thing that is wrong, as it is refused
 pub data IsFirstWrong (ontology facts query : List ℕ) : Refusal → Type 0 where
@@ -47,4 +44,4 @@ pub data IsFirstWrong (ontology facts query : List ℕ) : Refusal → Type 0 whe
       → HasFault query names fault after → stop_of_query fault ≡ Refused refusal
       → IsFirstWrong ontology facts query refusal
   in_load : {load : Load} {asked : Query} {refusal : Refusal} → AreInput ontology facts query load asked
-      → IsLoadWrong load asked refusal → IsFirstWrong ontology facts query refusal
+      → IsLoadWrong load refusal → IsFirstWrong ontology facts query refusal

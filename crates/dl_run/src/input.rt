@@ -23,7 +23,7 @@ use std::alloc::Global;
 const OWL_NOTHING: &str = "http://www.w3.org/2002/07/owl#Nothing";
 
 /// What the bytes of the three files ask, or the first thing that is wrong with them. Ontology, data and query are
-/// read in this order, and then it is tested whether the load and the query are answered so far.
+/// read in this order, and then the limits of the load are tested.
 pub(crate) fn input_of(
     alloc: Global,
     ontology: &[u8],

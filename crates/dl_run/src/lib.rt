@@ -14,6 +14,7 @@ mod signature;
 mod status;
 mod stop;
 mod texts;
+mod told;
 mod words;
 
 pub use command::{answer_command, quest, without_memory};

@@ -4,14 +4,16 @@ ghost use Rattle.std.specs.List.{All, flat_map};
 ghost use Rattle.dl_io.specs.Count.{HasRisen};
 ghost use Rattle.dl_io.specs.Gathering.{Takes, TakesPrefix, state_of};
 ghost use Rattle.dl_run.specs.Answered.{text_of, text_of_answers};
-ghost use Rattle.dl_run.specs.Output.{iri_of, joined_texts, tuple_line};
+ghost use Rattle.dl_run.specs.Output.{iri_of, joined_texts, tuple_line, answers_text};
 ghost use Rattle.dl_run.specs.Pieces.{digits_of, separator};
 ghost use Rattle.dl_run.specs.Refusals.{refusal_text};
+ghost use Rattle.dl_run.specs.Told.{HasNamesBelow, told_text};
 
 use crate::answer::Answers;
 use crate::refusals::words_of;
 use crate::stop::{Refusal, Stop};
 use crate::texts::{NO_MEMORY, READ_FAULT};
+use crate::told::Told;
 use dl_io::{Failed, GatheringSink, Sink};
 use dl_names::Names;
 use dl_terms::Tuples;
@@ -100,7 +102,7 @@ fn digits_of(buffer: &mut Buffer, number: Option<u64>) -> &str
     }
 }
 
-/// Prints how many facts and answers there are, and a line for each answer.
+/// Prints how many facts there are, and the answers or what is broken.
 fn put_answers<S: Sink>(out: &mut GatheringSink<'_, S>, answers: &Answers) -> Result<(), Failed>
     ensures same_reference { out.new.sink.ghost_name ≡ out.old.sink.ghost_name }
     ensures all { OnOk result
@@ -112,23 +114,54 @@ fn put_answers<S: Sink>(out: &mut GatheringSink<'_, S>, answers: &Answers) -> Re
     ensures failed { OnErr result
         (HasRisen (S.faults out.old.sink.now) (S.faults out.new.sink.now)) }
 {
-    let (mut facts, mut skipped, mut count) = (Buffer::new(), Buffer::new(), Buffer::new());
+    let (mut facts, mut skipped) = (Buffer::new(), Buffer::new());
     let facts = facts.format(answers.facts as u64);
     let skipped = skipped.format(answers.skipped);
-    let count = count.format(answers.found.len());
-    put_all(
-        out,
-        &[
-            "facts ",
-            facts,
-            " skipped ",
-            skipped,
-            "\nanswers ",
-            count,
-            "\n",
-        ],
-    )?;
-    put_lines(out, &answers.names, &answers.found)
+    put_all(out, &["facts ", facts, " skipped ", skipped, "\n"])?;
+    put_told(out, &answers.names, &answers.told)
+}
+
+/// Prints answers, or what is broken.
+fn put_told<S: Sink>(
+    out: &mut GatheringSink<'_, S>,
+    names: &Names,
+    told: &Told,
+) -> Result<(), Failed>
+    requires { HasNamesBelow (length names.now) told.now }
+    ensures same_reference { out.new.sink.ghost_name ≡ out.old.sink.ghost_name }
+    ensures all { OnOk result (Takes (state_of S.got out.old) (state_of S.got out.new)
+        (told_text names.now told.now)) }
+    ensures prefix { OnErr result (TakesPrefix (state_of S.got out.old) (state_of S.got out.new)
+        (told_text names.now told.now)) }
+    ensures count { S.faults out.old.sink.now ≤ S.faults out.new.sink.now }
+    ensures failed { OnErr result
+        (HasRisen (S.faults out.old.sink.now) (S.faults out.new.sink.now)) }
+{
+    match told {
+        Told::Found(tuples) => put_found(out, names, tuples),
+        Told::Inconsistent(text) => put_all(out, &["inconsistent ", text.as_str(), "\n"]),
+    }
+}
+
+/// Prints how many answers there are, and a line for each.
+fn put_found<S: Sink>(
+    out: &mut GatheringSink<'_, S>,
+    names: &Names,
+    answers: &Tuples,
+) -> Result<(), Failed>
+    requires { All (λ tuple. All (λ n. n < length names.now) tuple) answers.now.tuples }
+    ensures same_reference { out.new.sink.ghost_name ≡ out.old.sink.ghost_name }
+    ensures all { OnOk result (Takes (state_of S.got out.old) (state_of S.got out.new)
+        (answers_text names.now answers.now.tuples)) }
+    ensures prefix { OnErr result (TakesPrefix (state_of S.got out.old) (state_of S.got out.new)
+        (answers_text names.now answers.now.tuples)) }
+    ensures count { S.faults out.old.sink.now ≤ S.faults out.new.sink.now }
+    ensures failed { OnErr result
+        (HasRisen (S.faults out.old.sink.now) (S.faults out.new.sink.now)) }
+{
+    let mut count = Buffer::new();
+    put_all(out, &["answers ", count.format(answers.len()), "\n"])?;
+    put_lines(out, names, answers)
 }
 
 /// Prints a line for each answer.

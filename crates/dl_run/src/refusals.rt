@@ -44,7 +44,6 @@ pub(crate) fn words_of(refusal: Refusal) -> Words
             head,
         } => too_large(atoms, existential, head),
         Refusal::TooManyNames => plain("more than 4000000 names", ""),
-        Refusal::NotBuilt => plain("not built", ""),
         Refusal::TooHeavy { weight } => counted("axiom weight ", weight, " over 65536"),
         Refusal::TooManyPredicates { count } => counted("", count, " predicates over 4096"),
         Refusal::TooMany { limit } => counted("more than ", limit, " answers"),

@@ -1,17 +1,25 @@
 // The answers to what the files of `answer` ask.
-ghost use Rattle.dl_run.specs.Answered.{RepliesTo};
-ghost use Rattle.dl_run.specs.Asked.{load_of, IsMade};
-ghost use Rattle.dl_run.specs.Served.{IsAnswered};
+ghost use Rattle.std.specs.Prelude.{◌≡◌, ◌<◌, length, IfOk, IfSome, string_bytes};
+ghost use Rattle.std.specs.List.{All};
+ghost use Rattle.dl_terms.specs.Occurring.{axiom_names};
+ghost use Rattle.dl_run.specs.Answered.{AreTold, RepliesTo};
+ghost use Rattle.dl_run.specs.Asked.{load_of, IsMade, AnswersAsked};
+ghost use Rattle.dl_run.specs.Limits.{IsWithinLimits};
+ghost use Rattle.dl_run.specs.Output.{broken_text};
 
 use crate::answer::{Answers, Asked};
 use crate::stop::{Refusal, Stop};
+use crate::told::Told;
 use dl_answer::{Answer, AskFault, ask_facts};
+use dl_names::Names;
 use dl_normal::fillers_are_of_parts;
+use dl_owl::axiom_text;
+use dl_terms::{Axiom, NoMemory};
 use std::alloc::Global;
 
-/// The answers to what is asked, unless they are more than the limit.
+/// The answers to what is asked, or the first broken axiom, unless the answers are more than the limit.
 pub(crate) fn answers_for(alloc: Global, asked: Asked, limit: u64) -> Result<Answers, Stop>
-    requires answered { IsAnswered (load_of asked) asked.query }
+    requires limits { IsWithinLimits (load_of asked) }
     requires made { IsMade asked }
     ensures { RepliesTo (load_of asked) asked.query limit result }
 {
@@ -25,17 +33,44 @@ pub(crate) fn answers_for(alloc: Global, asked: Asked, limit: u64) -> Result<Ans
         limit,
         asked.nothing,
     );
+    let told = told_of(alloc, answer, &asked, limit)?;
+    Ok(Answers {
+        names: asked.names,
+        facts: asked.facts.len(),
+        skipped: asked.skipped,
+        told,
+    })
+}
+
+/// What is told of an answer: its tuples, or the text of the broken axiom.
+fn told_of(
+    alloc: Global,
+    answer: Result<Answer, AskFault>,
+    asked: &Asked,
+    limit: u64,
+) -> Result<Told, Stop>
+    requires { AnswersAsked asked.now limit answer }
+    ensures { AreTold (load_of asked.now) asked.now.query limit result }
+{
     match answer {
-        Ok(Answer::Found { tuples, .. }) => Ok(Answers {
-            names: asked.names,
-            facts: asked.facts.len(),
-            skipped: asked.skipped,
-            found: tuples,
-        }),
-        // Axioms that are answered so far can't be broken.
-        Ok(Answer::Inconsistent { .. }) => unreachable!(),
+        Ok(Answer::Found { tuples, .. }) => Ok(Told::Found(tuples)),
+        Ok(Answer::Inconsistent { axiom, .. }) => {
+            let text = broken_text(alloc, &axiom, &asked.names)?;
+            Ok(Told::Inconsistent(text))
+        }
         Err(AskFault::TooMany { .. }) => Err(Stop::Refused(Refusal::TooMany { limit })),
         Err(AskFault::NoPin) => unreachable!(),
         Err(AskFault::NoMemory) => Err(Stop::NoMemory),
+    }
+}
+
+/// The text of a broken axiom. None stands for `owl:Nothing`.
+fn broken_text(alloc: Global, broken: &Option<Axiom>, names: &Names) -> Result<String, NoMemory>
+    requires { IfSome broken.now (λ stated. All (λ name. name < length names.now) (axiom_names stated)) }
+    ensures { IfOk result (λ text. string_bytes text ≡ broken_text names.now broken.now) }
+{
+    match broken {
+        Some(stated) => axiom_text(alloc, stated, names),
+        None => Ok(String::from_str(alloc, "owl:Nothing")?),
     }
 }

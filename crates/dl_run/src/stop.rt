@@ -81,8 +81,6 @@ pub(crate) enum Refusal {
     },
     /// A name that has no place any more.
     TooManyNames,
-    /// The files give an input that isn't built yet.
-    NotBuilt,
     /// The weight of the axioms is over its limit.
     TooHeavy {
         weight: u64,

@@ -66,8 +66,8 @@ returns-in_err-reserve-clause-says g c =
     let p = err_from_is_err_and c.from_residual-in_err-reserve.result c.from_residual-in_err-reserve.ensures.1 in
     says_no_memory w.ontology.now w.facts.now w.query.now w.limit (g.L.Library.told c.args.files.now) _ p.0 c.from_residual-in_err-reserve.result p.1 p.2
 
-pub answers_for-requires-clause-answered : goal.answers_for-requires-clause-answered
-answers_for-requires-clause-answered g c = c.in_ok-asked.ensures.1
+pub answers_for-requires-clause-limits : goal.answers_for-requires-clause-limits
+answers_for-requires-clause-limits g c = c.in_ok-asked.ensures.1
 
 pub answers_for-requires-clause-made : goal.answers_for-requires-clause-made
 answers_for-requires-clause-made g c = c.in_ok-asked.ensures.2

@@ -61,9 +61,6 @@ returns-in_err-judge c =
     (record { fit = c.requires; first = _; is_ontology = rw c.new-names.ensures at c.in_ok-document.ensures.value; is_data = c.in_ok-triples.ensures.value })
     c.in_ok-read.ensures.ok c.in_ok-asked.ensures.numbered p.0 c.from_residual-in_err-judge.result p.1 (rw p.2 c.in_err-judge.ensures)
 
-pub judge-requires : goal.judge-requires
-judge-requires c = (c.in_ok-asked.ensures.made).well_formed
-
 pub returns : goal.returns
 returns c =
     gives_asked c.args.ontology.now c.args.facts.now c.args.query.now c.in_ok-document.document c.in_ok-triples.triples _ _ c.in_ok-read.read c.in_ok-asked.asked

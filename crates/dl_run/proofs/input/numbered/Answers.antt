@@ -1,6 +1,6 @@
 use Rattle.std.proofs.Common.{◌++◌, length, map, slice_index}
 use Rattle.dl_names.specs.Iris.{owl_nothing}
-use Rattle.dl_run.proofs.InputLemmas.{ranked_facts, joined_placed, set_of_joined, number_found, signature_from}
+use Rattle.dl_run.proofs.InputLemmas.{ranked_axioms, ranked_facts, joined_placed, set_of_joined, number_found, signature_from}
 use Rattle.dl_run.proofs.NamedLemmas.{well_formed_renamed, plain_renamed}
 use Rattle.dl_run.proofs.SignatureLemmas.{has_names, has_predicates}
 use Rattle.dl_run.proofs.input.numbered.Goals as goal
@@ -28,6 +28,8 @@ invariant_of-result c =
     let frozen = c.in_ok-names.ensures in
     let to = slice_index c.in_ok-names.ranks in
     record {
+      axioms_named = ranked_axioms c.args.names c.in_ok-names.names c.in_ok-names.ranks frozen c.args.document.axioms c.axiom_set-axioms.result
+          c.requires.axioms_placed (rw c.ranked.ensures.axioms at c.axiom_set-axioms.ensures);
       facts_named = ranked_facts c.args.names c.in_ok-names.names c.in_ok-names.ranks frozen (c.args.triples.facts ++ c.args.document.facts) c.fact_set-facts.result
           (joined_placed (length c.args.names) c.args.triples.facts c.args.document.facts c.requires.triples_placed c.requires.facts_placed)
           (set_of_joined to c.args.triples.facts c.args.document.facts _ _ _ c.fact_set-facts.result c.ranked-2.ensures.facts c.ranked.ensures.facts c.in_ok-both.ensures c.fact_set-facts.ensures);

@@ -1,29 +1,22 @@
-use Rattle.std.proofs.Common.{◌∙◌, ◌-◌, ◌^◌, ap, sym, min, true≢false, arith}
+use Rattle.std.proofs.Common.{◌∙◌, ◌-◌, ◌^◌, ap, min, arith}
 use Rattle.dl_normal.specs.Weight.{total_weight}
 use Rattle.dl_run.specs.Asked.{load_of}
-use Rattle.dl_run.specs.Wrong.IsLoadWrong.{not_built}
-use Rattle.dl_run.proofs.LimitLemmas.{heavy, many, answered}
+use Rattle.dl_run.proofs.LimitLemmas.{heavy, many, within_limits}
 use Rattle.dl_run.proofs.limits.judge.Goals as goal
-
-pub returns-then-not-is_built : goal.returns-then-not-is_built
-returns-then-not-is_built c = not_built (λ served. true≢false (sym (c.is_built.ensures.1 served) ∙ c.if-not-is_built.true))
 
 pub returns-then-weight-gt-MAX_WEIGHT : goal.returns-then-weight-gt-MAX_WEIGHT
 returns-then-weight-gt-MAX_WEIGHT c =
-    let asked = c.args.asked.now in
-    heavy (load_of asked) asked.query (c.is_built.ensures.0 c.if-not-is_built.false) c.weight-weight.result
+    heavy (load_of c.args.asked.now) c.weight-weight.result
     (c.weight-weight.ensures ∙ ap (λ l. min (total_weight l) (2 ^ 64 - 1)) c.as_slice.ensures) c.if-weight-gt-MAX_WEIGHT.true
 
 pub returns-then-count-gt-MAX_PREDICATES : goal.returns-then-count-gt-MAX_PREDICATES
 returns-then-count-gt-MAX_PREDICATES c =
-    let asked = c.args.asked.now in
-    many (load_of asked) asked.query (c.is_built.ensures.0 c.if-not-is_built.false) c.weight-weight.result
+    many (load_of c.args.asked.now) c.weight-weight.result
     (c.weight-weight.ensures ∙ ap (λ l. min (total_weight l) (2 ^ 64 - 1)) c.as_slice.ensures) (omega (arith, c.if-weight-gt-MAX_WEIGHT.false))
     c.in_ok-count.count c.in_ok-count.ensures.0 c.in_ok-count.ensures.1 c.in_ok-count.ensures.2 c.if-count-gt-MAX_PREDICATES.true
 
 pub returns : goal.returns
 returns c =
-    let asked = c.args.asked.now in
-    answered (load_of asked) asked.query (c.is_built.ensures.0 c.if-not-is_built.false) c.weight-weight.result
+    within_limits (load_of c.args.asked.now) c.weight-weight.result
     (c.weight-weight.ensures ∙ ap (λ l. min (total_weight l) (2 ^ 64 - 1)) c.as_slice.ensures) (omega (arith, c.if-weight-gt-MAX_WEIGHT.false))
     c.in_ok-count.count c.in_ok-count.ensures.0 c.in_ok-count.ensures.1 c.in_ok-count.ensures.2 (omega (arith, c.if-count-gt-MAX_PREDICATES.false))

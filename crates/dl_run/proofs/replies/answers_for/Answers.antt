@@ -1,11 +1,14 @@
-use Rattle.std.proofs.Common.{length, arith}
-use Rattle.dl_run.proofs.NamedLemmas.{reply_named, not_broken}
+use Rattle.std.proofs.Common.{arith}
+use Rattle.std.proofs.lemmas.Result.{err_from_is_err_and}
+use Rattle.dl_run.specs.Asked.{load_of}
+use Rattle.dl_run.proofs.NamedLemmas.{told_named}
 use Rattle.dl_run.proofs.SignatureLemmas.{are_few}
+use Rattle.dl_run.proofs.ToldLemmas.{stop_told}
 use Rattle.dl_run.proofs.replies.answers_for.Goals as goal
 
 pub ask_facts-answer-requires-clause-few : goal.ask_facts-answer-requires-clause-few
 ask_facts-answer-requires-clause-few c =
-    let limits = c.requires.answered.limits in
+    let limits = c.requires.limits in
     rw c.as_slice.ensures
     (are_few c.args.asked.axioms c.requires.made.no_fillers c.fillers_are_of_parts.ensures limits.counted.fillers limits.counted.distinct c.args.asked.signature
     (omega (arith, limits.counted.is, limits.few)))
@@ -14,10 +17,12 @@ pub invariant_of-result : goal.invariant_of-result
 invariant_of-result c =
     let asked = c.args.asked in
     record {
-      found_named = reply_named asked.axioms asked.facts (length asked.names) asked.facts_named asked.query c.requires.made.well_formed c.in-Ok-Found.tuples.tuples
-          (rw (c.as_slice.ensures, c.as_slice-2.ensures, c.in-Ok-Found.field-0-is) at c.in-Ok-Found.ensures.0);
+      told_named = told_named asked.axioms asked.facts asked.names asked.facts_named asked.query c.requires.made.well_formed c.in_ok-told.told
+          c.in_ok-told.ensures;
     }
 
-pub unreachable-requires : goal.unreachable-requires
-unreachable-requires c =
-    not_broken c.args.asked.query c.requires.answered.served (rw (c.as_slice.ensures, c.as_slice-2.ensures, c.in-Ok-Inconsistent.field-0-is) at c.in-Ok-Inconsistent.ensures.0)
+pub returns-in_err-told : goal.returns-in_err-told
+returns-in_err-told c =
+    let asked = c.args.asked in
+    let p = err_from_is_err_and c.from_residual.result c.from_residual.ensures.1 in
+    stop_told (load_of asked) asked.query c.args.limit p.0 c.from_residual.result p.1 (rw p.2 c.in_err-told.ensures)

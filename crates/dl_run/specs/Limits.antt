@@ -1,10 +1,9 @@
--- The loads and queries that are answered so far, and the limits of a load. The limits are this project's own.
+-- The limits of a load; they are this project's own.
 use Rattle.std.specs.Prelude.{◌≡◌, ℕ, ◌+◌, ◌-◌, ◌^◌, ◌≤◌, min, length}
-use Rattle.dl_terms.specs.declared.query.Query.{Query}
 use Rattle.dl_normal.specs.Filled.{HasDistinct, filled_pairs}
 use Rattle.dl_normal.specs.Weight.{total_weight}
 use Rattle.dl_hier.specs.Predicates.{max_predicates}
-use Rattle.dl_answer.specs.Replies.{max_weight, IsServed}
+use Rattle.dl_answer.specs.Replies.{max_weight}
 use Rattle.dl_run.specs.Input.{Load}
 
 -- how many predicates a load has: the classes and object properties of its signature, and a filler for each pair of
@@ -20,12 +19,6 @@ pub record IsWithinLimits (load : Load) : Type 0 where
   pub predicates : ℕ
   pub counted : HasPredicateCount load predicates
   pub few : predicates ≤ max_predicates
-
--- what is answered so far: the query has no existential variable, the normal form of the axioms no negative, and
--- owl:Nothing is no name; and the load is within its limits
-pub record IsAnswered (load : Load) (asked : Query) : Type 0 where
-  pub served : IsServed load.axioms asked load.nothing
-  pub limits : IsWithinLimits load
 
 -- a count as it is told: 2^64 - 1 where it is more
 abbrev pub told : ℕ → ℕ

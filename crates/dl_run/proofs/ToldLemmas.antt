@@ -1,0 +1,50 @@
+-- From an answer to what is told of it.
+use Rattle.std.proofs.Common.{◌≡◌, ℕ, Result, Ok, Err, ap, subst, ◌∙◌}
+use Rattle.std.specs.declared.option.Option.{Option}
+use Rattle.dl_terms.specs.Reply.{IsReply, found, inconsistent, too_many}
+use Rattle.dl_terms.specs.Table.{Table}
+use Rattle.dl_terms.specs.declared.axiom.Axiom.{Axiom}
+use Rattle.dl_terms.specs.declared.query.Query.{Query}
+use Rattle.dl_answer.specs.declared.answer.Answer.{Answer}
+use Rattle.dl_answer.specs.declared.answer.Answer.TheVariants.{Found, Inconsistent}
+use Rattle.dl_answer.specs.declared.fault.AskFault.{AskFault}
+use Rattle.dl_answer.specs.declared.fault.AskFault.TheVariants as fault
+use Rattle.dl_run.specs.Answered.{AreTold, RepliesTo}
+use Rattle.dl_run.specs.Asked.{AnswersAsked}
+use Rattle.dl_run.specs.Input.{Load}
+use Rattle.dl_run.specs.declared.answer.Answers.{Answers}
+use Rattle.dl_run.specs.declared.answer.Asked.{Asked}
+use Rattle.dl_run.specs.declared.stop.Stop.{Stop}
+use Rattle.dl_run.specs.declared.stop.Stop.TheVariants.{Refused, ReadFault, NoMemory}
+use Rattle.dl_run.specs.declared.told.Told.{Told}
+
+module _ (asked : Asked) (limit : ℕ) (r : Result Answer AskFault) (answers : AnswersAsked asked limit r) where
+  pub found_told : (answer : Answer) (version : ℕ) (tuples : Table) → r ≡ Ok answer → answer ≡ Found version tuples
+      → IsReply asked.axioms asked.facts asked.nothing asked.query limit (found tuples.tuples)
+  found_told answer version tuples is made = (subst (AnswersAsked asked limit) (is ∙ ap Ok made) answers).0
+
+  pub broken_told : (answer : Answer) (version : ℕ) (broken : Option Axiom) → r ≡ Ok answer
+      → answer ≡ Inconsistent version broken
+      → IsReply asked.axioms asked.facts asked.nothing asked.query limit (inconsistent broken)
+  broken_told answer version broken is made = (subst (AnswersAsked asked limit) (is ∙ ap Ok made) answers).0
+
+  pub many_told : (why : AskFault) (version : ℕ) → r ≡ Err why → why ≡ fault.TooMany version
+      → IsReply asked.axioms asked.facts asked.nothing asked.query limit too_many
+  many_told why version is made = (subst (AnswersAsked asked limit) (is ∙ ap Err made) answers).0
+
+  pub never_unpinned : (why : AskFault) → r ≡ Err why → why ≡ fault.NoPin → ⊥
+  never_unpinned why is made = subst (AnswersAsked asked limit) (is ∙ ap Err made) answers
+
+module _ (load : Load) (asked : Query) (limit : ℕ) (stop : Stop) where
+  -- want of memory is told as such
+  pub memory_told : (r : Result Told Stop) → r ≡ Err stop → stop ≡ NoMemory → AreTold load asked limit r
+  memory_told r is made = rw (is, made) tt
+
+  -- and what stops telling stops answering
+  pub stop_told : (r : Result Answers Stop) → r ≡ Err stop → AreTold load asked limit (Err stop) → RepliesTo load asked limit r
+  stop_told r is told = rw is (by stop told)
+    where
+      by : (stop : Stop) → AreTold load asked limit (Err stop) → RepliesTo load asked limit (Err stop)
+      by (Refused refusal) told = told
+      by ReadFault told = absurd told
+      by NoMemory told = tt
