@@ -3,10 +3,10 @@ ghost use Rattle.std.specs.List.{All};
 ghost use Rattle.dl_terms.specs.Queries.{IsWellFormed};
 ghost use Rattle.dl_hier.specs.Rows.{HasNames, AreFew};
 ghost use Rattle.dl_answer.specs.Facts.{HasPredicate, HasPredicates};
-ghost use Rattle.dl_answer.specs.Replies.{normal_form, IsServed};
+ghost use Rattle.dl_answer.specs.Replies.{normal_form};
 
 use crate::join::are_tuples;
-use dl_answer::{Answer, AskFault, ask_facts, is_served};
+use dl_answer::{Answer, AskFault, ask_facts};
 use dl_hier::fits;
 use dl_names::{NameFault, NameSet};
 use dl_normal::{normal, weight};
@@ -337,23 +337,13 @@ fn knows_all(signature: &Signature, facts: &[Fact]) -> bool
     true
 }
 
-/// True only where the axioms and the query may be asked with the signature.
-fn may_be_asked(
-    alloc: Global,
-    axioms: &[Axiom],
-    signature: &Signature,
-    query: &Query,
-) -> Result<bool, NoMemory>
-    requires few { length axioms.now < 2 ^ 32 }
-    requires query { IsWellFormed query.now }
+/// True only where the axioms may be asked with the signature.
+fn may_be_asked(alloc: Global, axioms: &[Axiom], signature: &Signature) -> Result<bool, NoMemory>
+    requires { length axioms.now < 2 ^ 32 }
     ensures names { IfOk result (λ may. IsTrue may → HasNames signature.now (normal_form axioms.now)) }
     ensures fillers { IfOk result (λ may. IsTrue may → AreFew signature.now (normal_form axioms.now)) }
-    ensures served { IfOk result (λ may. IsTrue may → IsServed axioms.now query.now None) }
 {
     let rows = normal(alloc, axioms)?;
-    if !is_served(&rows, query, None) {
-        return Ok(false);
-    }
     fits(alloc, &rows, signature)
 }
 
@@ -371,7 +361,7 @@ fn asked(
     if weight(axioms) > 65536 {
         return Err(AskFault::NoPin);
     }
-    if !may_be_asked(alloc, axioms, signature, query)? {
+    if !may_be_asked(alloc, axioms, signature)? {
         return Err(AskFault::NoPin);
     }
     if !knows_all(signature, facts) {
@@ -427,58 +417,5 @@ fn are_answered(alloc: Global, rows: &[Row]) -> Result<bool, NoMemory> {
 #[test]
 fn queries_have_their_answers(rt: HostRuntime) -> Result<(), Fail> {
     assert!(rt; are_answered(rt.alloc(), ROWS)?);
-    Ok(())
-}
-
-/// True where an axiom and a query are served as said.
-fn is_told(
-    alloc: Global,
-    given: Given,
-    text: &str,
-    nothing: Option<u32>,
-    served: bool,
-) -> Result<bool, NoMemory> {
-    let axioms = axioms_of(alloc, &[given])?;
-    let Some(query) = query_of(alloc, text) else {
-        return Ok(false);
-    };
-    if axioms.len() > 1 {
-        return Ok(false);
-    }
-    let rows = normal(alloc, axioms.as_slice())?;
-    Ok(is_served(&rows, &query, nothing) == served)
-}
-
-/// An axiom, a query, the number of `owl:Nothing`, and whether they are served.
-const SERVED: &[(Given, &str, Option<u32>, bool)] = &[
-    (
-        Given::Role(P, S),
-        "q(?x, ?y) :- <P>(?x, ?y), <A>(<a>)",
-        None,
-        true,
-    ),
-    (Given::Role(P, S), "q(?x) :- <P>(?x, ?y)", None, false),
-    (Given::Role(P, S), "q(?y) :- <P>(?x, ?y)", None, false),
-    (Given::Role(P, S), "q() :- <A>(<a>)", Some(2), false),
-    (
-        Given::Class(Basic::Class(0), Part::Not(Basic::Class(1))),
-        "q() :- <A>(<a>)",
-        None,
-        false,
-    ),
-];
-
-fn are_told(alloc: Global) -> Result<bool, NoMemory> {
-    for row in SERVED {
-        if !is_told(alloc, row.0, row.1, row.2, row.3)? {
-            return Ok(false);
-        }
-    }
-    Ok(true)
-}
-
-#[test]
-fn what_is_served_is_told(rt: HostRuntime) -> Result<(), Fail> {
-    assert!(rt; are_told(rt.alloc())?);
     Ok(())
 }

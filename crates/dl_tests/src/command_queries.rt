@@ -93,30 +93,6 @@ const REFUSED: &[Row] = &[
         "q() :- <P>(?a, ?b), <P>(?c, ?d), <P>(?e, ?f), <P>(?g, ?h), <P>(?h, ?i)",
         "refused: query has 5 atoms, 9 existential variables, 0 head places\n",
     ),
-    (
-        "Ontology()",
-        "",
-        "q(?x) :- <P>(?x, ?y)",
-        "refused: not built\n",
-    ),
-    (
-        "Ontology(SubClassOf(<A> ObjectComplementOf(<B>)))",
-        "",
-        "q(?x) :- <A>(?x)",
-        "refused: not built\n",
-    ),
-    (
-        "Ontology(IrreflexiveObjectProperty(<P>))",
-        "",
-        "q(?x) :- <A>(?x)",
-        "refused: not built\n",
-    ),
-    (
-        "Ontology(SubClassOf(<A> owl:Nothing))",
-        "",
-        "q(?x) :- <A>(?x)",
-        "refused: not built\n",
-    ),
 ];
 
 /// Whether the command ends with this status for each row, and says what the row tells.
@@ -141,7 +117,7 @@ fn queries_over_names_are_answered(rt: HostRuntime) -> Result<(), Fail> {
 }
 
 #[test]
-fn faults_of_queries_and_what_is_not_built(rt: HostRuntime) -> Result<(), Fail> {
+fn faults_of_queries_are_told(rt: HostRuntime) -> Result<(), Fail> {
     assert!(rt; all_end(rt.alloc(), REFUSED, Status::Refused)?);
     Ok(())
 }

@@ -88,14 +88,14 @@ const DATA_FILE_MISSING: &[(&str, &str)] = &[
     ("query.q", "q(?x) :- <B>(?x)"),
 ];
 
-/// The same beside an ontology of a form that isn't read: the files are read whole before any is tested.
-const DATA_MISSING_BESIDE_NOT_BUILT: &[(&str, &str)] = &[
-    ("ontology.ofn", "Ontology(DisjointClasses(<A> <B>))"),
+/// The same beside an ontology with a fault: the files are read whole before any is tested.
+const DATA_MISSING_BESIDE_FAULT: &[(&str, &str)] = &[
+    ("ontology.ofn", "Ontology(DisjointClasses(<A>))"),
     ("query.q", "q(?x) :- <B>(?x)"),
 ];
 
-/// The same beside facts of a form that isn't read.
-const QUERY_MISSING_BESIDE_NOT_BUILT: &[(&str, &str)] = &[
+/// The same beside data with a fault.
+const QUERY_MISSING_BESIDE_FAULT: &[(&str, &str)] = &[
     ("ontology.ofn", "Ontology(SubClassOf(<A> <B>))"),
     ("data.nt", "no triple\n"),
 ];
@@ -186,8 +186,8 @@ fn misses(alloc: Global, texts: &[(&str, &str)]) -> Result<bool, AllocError> {
 #[test]
 fn a_missing_file_is_a_read_fault(rt: HostRuntime) -> Result<(), Fail> {
     assert!(rt; misses(rt.alloc(), DATA_FILE_MISSING)?);
-    assert!(rt; misses(rt.alloc(), DATA_MISSING_BESIDE_NOT_BUILT)?);
-    assert!(rt; misses(rt.alloc(), QUERY_MISSING_BESIDE_NOT_BUILT)?);
+    assert!(rt; misses(rt.alloc(), DATA_MISSING_BESIDE_FAULT)?);
+    assert!(rt; misses(rt.alloc(), QUERY_MISSING_BESIDE_FAULT)?);
     Ok(())
 }
 

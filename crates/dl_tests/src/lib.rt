@@ -9,6 +9,8 @@ mod axioms;
 #[cfg(test)]
 mod command_queries;
 #[cfg(test)]
+mod denials;
+#[cfg(test)]
 mod deny;
 #[cfg(test)]
 mod faults;

@@ -11,39 +11,6 @@ const NO_DATA: &str = "";
 
 const MEMBERS_OF_A: &str = "q(?x) :- <A>(?x)";
 
-/// An ontology as an editor writes it, without its disjoint classes.
-const EDITOR: &str = "Prefix(:=<http://e.org/u#>)
-Prefix(owl:=<http://www.w3.org/2002/07/owl#>)
-Prefix(rdf:=<http://www.w3.org/1999/02/22-rdf-syntax-ns#>)
-Prefix(xml:=<http://www.w3.org/XML/1998/namespace>)
-Prefix(xsd:=<http://www.w3.org/2001/XMLSchema#>)
-Prefix(rdfs:=<http://www.w3.org/2000/01/rdf-schema#>)
-
-Ontology(<http://e.org/u>
-<http://e.org/u/1.0>
-Annotation(rdfs:comment \"A small \\\"university\\\"\"@en)
-
-Declaration(Class(:Professor))
-Declaration(Class(:Course))
-Declaration(ObjectProperty(:teaches))
-Declaration(DataProperty(:email))
-Declaration(NamedIndividual(:ann))
-############################
-#   Object Properties
-############################
-
-# Object Property: :teaches (:teaches)
-AnnotationAssertion(rdfs:label :teaches \"teaches\"@en)
-SubObjectPropertyOf(:teaches owl:topObjectProperty)
-ObjectPropertyDomain(:teaches :Professor)
-ObjectPropertyRange(:teaches :Course)
-
-SubClassOf(Annotation(rdfs:comment \"each one\") :Professor ObjectSomeValuesFrom(:teaches :Course))
-ClassAssertion(:Professor :ann)
-DifferentIndividuals(:ann :bob)
-)
-";
-
 /// A text in which 65 parentheses open, the last one at byte 720.
 const DEEP: &str = "Ontology(
 Annotation(Annotation(Annotation(Annotation(Annotation(Annotation(Annotation(Annotation(
@@ -147,25 +114,6 @@ const REFUSALS: &[Refused] = &[
         "_:b <P> <a> .\n",
         MEMBERS_OF_A,
         "refused: data line 1: blank node\n",
-    ),
-    // What isn't built: an axiom that something can break, an existential variable, and owl:Nothing as a name.
-    (
-        "Ontology(ObjectPropertyRange(<P> ObjectComplementOf(<A>)))",
-        NO_DATA,
-        MEMBERS_OF_A,
-        "refused: not built\n",
-    ),
-    (
-        EDITOR,
-        NO_DATA,
-        "q(?x) :- <http://e.org/u#teaches>(?x, ?y)",
-        "refused: not built\n",
-    ),
-    (
-        "Ontology()",
-        "<a> <http://www.w3.org/1999/02/22-rdf-syntax-ns#type> <http://www.w3.org/2002/07/owl#Nothing> .",
-        MEMBERS_OF_A,
-        "refused: not built\n",
     ),
 ];
 
