@@ -1,12 +1,12 @@
 -- Texts printed piece by piece.
-use Rattle.std.proofs.Common.{◌≡◌, ℕ, zero, suc, ◌+◌, ◌<◌, List, [], ◌∷◌, ◌++◌, length, get_or, map, take, drop, codes, Some, sym, ap, subst, ◌∙◌, refl, arith, append_assoc, slice_get}
+use Rattle.std.proofs.Common.{◌≡◌, ℕ, zero, suc, ◌+◌, ◌<◌, List, [], ◌∷◌, ◌++◌, length, get_or, map, take, drop, codes, Some, sym, ap, subst, ◌∙◌, refl, arith, append_assoc, slice_get, unwrap_or}
 use Rattle.std.specs.List.{flat_map}
 use Rattle.std.specs.Fmt.{decimal}
 use Rattle.std.proofs.lemmas.List.{append-nil, length-map, map-append, take_more, length-take-le, take-append-drop}
 use Rattle.dl_io.specs.Gathering.{Gathered, Takes, TakesPrefix}
 use Rattle.dl_io.proofs.Gathered.{Takes-append, TakesPrefix-append, TakesPrefix-front}
 use Rattle.dl_names.specs.NameList.{Text}
-use Rattle.dl_run.specs.Pieces.{digits_of, separator, text_of_words}
+use Rattle.dl_run.specs.Pieces.{digits_of, opening, closing, opened, text_of_words}
 use Rattle.dl_run.specs.Refusals.{refusal_words, refusal_text}
 use Rattle.dl_run.specs.declared.refusals.Words.{Words}
 use Rattle.dl_run.specs.declared.stop.Refusal.{Refusal}
@@ -56,63 +56,77 @@ refusal_pieces words number second third refusal is_n is_s is_t text =
 
 -- ---- a tuple
 
--- texts, and one more
-joined_next : (texts : List Text) (text : Text) → joined_texts (texts ++ text ∷ []) ≡ joined_texts texts ++ (separator (length texts) ++ text)
-joined_next [] text = refl
-joined_next (x ∷ []) text = refl
-joined_next (x ∷ y ∷ texts) text =
-    ap (λ rest. x ++ (codes ", " ++ rest)) (joined_next (y ∷ texts) text)
-    ∙ (simp append_assoc)
+-- the names from a column on, and more
+opened_more : (names : List Text) (column : ℕ) (tuple more : List ℕ)
+    → opened names column (tuple ++ more) ≡ opened names column tuple ++ opened names (column + length tuple) more
+opened_more names column [] more = ap (λ c. opened names c more) (omega arith)
+opened_more names column (n ∷ tuple) more =
+    let first = opening column ++ unwrap_or (slice_get names n) [] in
+    let place : suc column + length tuple ≡ column + length (n ∷ tuple) = omega arith in
+    ap (λ rest. first ++ rest) (opened_more names (suc column) tuple more)
+    ∙ sym (append_assoc first (opened names (suc column) tuple) (opened names (suc column + length tuple) more))
+    ∙ ap (λ c. (first ++ opened names (suc column) tuple) ++ opened names c more) place
 
--- texts, and more
-record Joined (texts more : List Text) : Type 0 where
-  rest : List ℕ
-  is : joined_texts (texts ++ more) ≡ joined_texts texts ++ rest
+-- names behind a first one, and what closes them
+names_closed : (names : List Text) (column : ℕ) (n : ℕ) (tuple : List ℕ)
+    → joined_texts (map (iri_of names) (n ∷ tuple)) ++ 41 ∷ 10 ∷ []
+    ≡ 60 ∷ (unwrap_or (slice_get names n) [] ++ (opened names (suc column) tuple ++ codes ">)\n"))
+names_closed names column n [] = ap (λ t. 60 ∷ t) (append_assoc (unwrap_or (slice_get names n) []) (62 ∷ []) (41 ∷ 10 ∷ []))
+names_closed names column n (m ∷ tuple) =
+    let text = unwrap_or (slice_get names n) [] in
+    let next = unwrap_or (slice_get names m) [] in
+    let joined = joined_texts (map (iri_of names) (m ∷ tuple)) in
+    let rest = opened names (suc (suc column)) tuple in
+    front text joined (41 ∷ 10 ∷ [])
+    ∙ ap (λ l. 60 ∷ (text ++ 62 ∷ 44 ∷ 32 ∷ l)) (names_closed names (suc column) m tuple)
+    ∙ ap (λ l. 60 ∷ (text ++ 62 ∷ 44 ∷ 32 ∷ 60 ∷ l)) (back next rest (codes ">)\n"))
+  where
+    front : (text joined end : List ℕ) → ((60 ∷ (text ++ 62 ∷ [])) ++ (codes ", " ++ joined)) ++ end ≡ 60 ∷ (text ++ 62 ∷ 44 ∷ 32 ∷ (joined ++ end))
+    front text joined end = ap (λ l. 60 ∷ l) (simp append_assoc)
+    back : (next rest end : List ℕ) → next ++ (rest ++ end) ≡ (next ++ rest) ++ end
+    back next rest end = sym (append_assoc next rest end)
 
-joined_more : (texts more : List Text) → Joined texts more
-joined_more [] more = record { rest = joined_texts more; is = refl }
-joined_more (x ∷ []) [] = record { rest = []; is = sym (append-nil x) }
-joined_more (x ∷ []) (y ∷ more) = record { rest = codes ", " ++ joined_texts (y ∷ more); is = refl }
-joined_more (x ∷ y ∷ texts) more =
-    let later = joined_more (y ∷ texts) more in
-    record {
-      rest = later.rest;
-      is = ap (λ rest. x ++ (codes ", " ++ rest)) later.is ∙ (simp append_assoc);
-    }
+-- the line of a tuple, from its names and what closes them
+pub line_closed : (names : List Text) (tuple : List ℕ) → opened names 0 tuple ++ closing (length tuple) ≡ tuple_line names tuple
+line_closed names [] = refl
+line_closed names (n ∷ tuple) =
+    append_assoc (codes "(<" ++ unwrap_or (slice_get names n) []) (opened names 1 tuple) (codes ">)\n")
+    ∙ ap (λ l. 40 ∷ l) (sym (names_closed names 0 n tuple))
+
+-- the same from what was printed behind the names
+pub closed_by : (names : List Text) (tuple : List ℕ) (width : ℕ) (last : List ℕ) → length tuple ≡ width → last ≡ closing width
+    → opened names 0 tuple ++ last ≡ tuple_line names tuple
+closed_by names tuple width last long is =
+    ap (λ l. opened names 0 tuple ++ l) (is ∙ ap closing (sym long)) ∙ line_closed names tuple
 
 module _ (names : List Text) (tuple : List ℕ) (j : ℕ) (h : j < length tuple) where
   -- the names of a tuple so far, and one more
-  names_next : joined_texts (map (iri_of names) (take (j + 1) tuple))
-      ≡ joined_texts (map (iri_of names) (take j tuple)) ++ (separator j ++ iri_of names (get_or tuple j 0))
-  names_next =
-      let long : length (map (iri_of names) (take j tuple)) ≡ j = length-map (take j tuple) (iri_of names) ∙ length-take-le j tuple (omega (arith, h)) in
-      ap (λ l. joined_texts (map (iri_of names) l)) (take_more tuple j 0 h)
-      ∙ ap joined_texts (map-append (iri_of names) (take j tuple) (get_or tuple j 0 ∷ []))
-      ∙ joined_next (map (iri_of names) (take j tuple)) (iri_of names (get_or tuple j 0))
-      ∙ ap (λ n. joined_texts (map (iri_of names) (take j tuple)) ++ (separator n ++ iri_of names (get_or tuple j 0))) long
+  opened_next : opened names 0 (take (j + 1) tuple) ≡ opened names 0 (take j tuple) ++ (opening j ++ unwrap_or (slice_get names (get_or tuple j 0)) [])
+  opened_next =
+      let long : 0 + length (take j tuple) ≡ j = omega (arith, length-take-le j tuple (omega (arith, h))) in
+      ap (opened names 0) (take_more tuple j 0 h)
+      ∙ opened_more names 0 (take j tuple) (get_or tuple j 0 ∷ [])
+      ∙ ap (λ c. opened names 0 (take j tuple) ++ opened names c (get_or tuple j 0 ∷ [])) long
+      ∙ ap (λ l. opened names 0 (take j tuple) ++ l) (append-nil (opening j ++ unwrap_or (slice_get names (get_or tuple j 0)) []))
 
-  whole : Joined (map (iri_of names) (take (j + 1) tuple)) (map (iri_of names) (drop (j + 1) tuple))
-  whole = joined_more (map (iri_of names) (take (j + 1) tuple)) (map (iri_of names) (drop (j + 1) tuple))
+  -- and the rest
+  opened_rest : opened names 0 (take (j + 1) tuple) ++ opened names (0 + length (take (j + 1) tuple)) (drop (j + 1) tuple) ≡ opened names 0 tuple
+  opened_rest = sym (opened_more names 0 (take (j + 1) tuple) (drop (j + 1) tuple)) ∙ ap (opened names 0) (take-append-drop (j + 1) tuple)
 
-  all_names : joined_texts (map (iri_of names) (take (j + 1) tuple)) ++ whole.rest ≡ joined_texts (map (iri_of names) tuple)
-  all_names =
-      sym whole.is
-      ∙ ap joined_texts (sym (map-append (iri_of names) (take (j + 1) tuple) (drop (j + 1) tuple)) ∙ ap (map (iri_of names)) (take-append-drop (j + 1) tuple))
+  module _ (before between now : Gathered) (first text : List ℕ) (is : slice_get names (get_or tuple j 0) ≡ Some text) (first_is : first ≡ opening j)
+      (so_far : Takes before between (opened names 0 (take j tuple))) where
+    piece : first ++ (text ++ []) ≡ opening j ++ unwrap_or (slice_get names (get_or tuple j 0)) []
+    piece = rw (first_is, is, append-nil text) refl
 
-  module _ (before between now : Gathered) (first text : List ℕ) (is : slice_get names (get_or tuple j 0) ≡ Some text) (first_is : first ≡ separator j)
-      (so_far : Takes before between (joined_texts (map (iri_of names) (take j tuple)))) where
-    piece : first ++ (60 ∷ (text ++ 62 ∷ [])) ≡ separator j ++ iri_of names (get_or tuple j 0)
-    piece = rw (first_is, is) refl
-
-    pub Takes-name : Takes between now (first ++ (60 ∷ (text ++ 62 ∷ []))) → Takes before now (joined_texts (map (iri_of names) (take (j + 1) tuple)))
+    pub Takes-name : Takes between now (first ++ (text ++ [])) → Takes before now (opened names 0 (take (j + 1) tuple))
     Takes-name takes =
-        subst (Takes before now) (sym names_next) (Takes-append before between now _ _ so_far (subst (Takes between now) piece takes))
+        subst (Takes before now) (sym opened_next) (Takes-append before between now _ _ so_far (subst (Takes between now) piece takes))
 
-    pub TakesPrefix-name : TakesPrefix between now (first ++ (60 ∷ (text ++ 62 ∷ []))) → TakesPrefix before now (joined_texts (map (iri_of names) tuple))
+    pub TakesPrefix-name : TakesPrefix between now (first ++ (text ++ [])) → TakesPrefix before now (opened names 0 tuple)
     TakesPrefix-name takes =
-        subst (TakesPrefix before now) all_names
+        subst (TakesPrefix before now) opened_rest
         (TakesPrefix-front before now _ _
-        (subst (TakesPrefix before now) (sym names_next) (TakesPrefix-append before between now _ _ so_far (subst (TakesPrefix between now) piece takes))))
+        (subst (TakesPrefix before now) (sym opened_next) (TakesPrefix-append before between now _ _ so_far (subst (TakesPrefix between now) piece takes))))
 
 -- the line of facts, as it is printed
 pub facts_pieces : (facts skipped : ℕ) (f k : List ℕ) → f ≡ decimal facts → k ≡ decimal skipped

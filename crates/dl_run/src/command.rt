@@ -45,12 +45,7 @@ fn answers_of<L: Library>(
     let ontology = read_file(alloc, files, words.ontology, InputFile::Ontology)?;
     let facts = read_file(alloc, files, words.facts, InputFile::Data)?;
     let query = read_file(alloc, files, words.query, InputFile::Query)?;
-    let asked = input_of(
-        alloc,
-        ontology.as_slice(),
-        facts.as_slice(),
-        query.as_slice(),
-    )?;
+    let asked = input_of(alloc, ontology, facts, query)?;
     gathered.reserve(GATHERED)?;
     answers_for(alloc, asked, words.limit)
 }

@@ -23,20 +23,23 @@ use std::alloc::Global;
 const OWL_NOTHING: &str = "http://www.w3.org/2002/07/owl#Nothing";
 
 /// What the bytes of the three files ask, or the first thing that is wrong with them. Ontology, data and query are
-/// read in this order, and then the limits of the load are tested.
+/// read in this order, and then the limits of the load are tested. The bytes are let go once they are read: all that
+/// comes behind them needs no more memory than they had.
 pub(crate) fn input_of(
     alloc: Global,
-    ontology: &[u8],
-    facts: &[u8],
-    query: &[u8],
+    ontology: Vec<u8>,
+    facts: Vec<u8>,
+    query: Vec<u8>,
 ) -> Result<Asked, Stop>
-    requires { AllFit ontology.now facts.now query.now }
-    ensures { Gives ontology.now facts.now query.now result }
+    requires { AllFit ontology.items facts.items query.items }
+    ensures { Gives ontology.items facts.items query.items result }
 {
     let mut names = NameSet::new(alloc);
-    let document = read_ontology(alloc, ontology, &mut names)?;
-    let triples = read_triples(alloc, facts, &mut names)?;
-    let read = read_query(alloc, query, &mut names)?;
+    let document = read_ontology(alloc, ontology.as_slice(), &mut names)?;
+    let triples = read_triples(alloc, facts.as_slice(), &mut names)?;
+    let read = read_query(alloc, query.as_slice(), &mut names)?;
+    drop(facts);
+    drop(ontology);
     let asked = numbered(names, document, triples, read)?;
     judge(alloc, &asked)?;
     Ok(asked)

@@ -1,11 +1,11 @@
 // What is printed, piece by piece, through a sink that gathers the pieces. It takes no memory.
-ghost use Rattle.std.specs.Prelude.{◌≡◌, ◌≤◌, ◌<◌, [], length, map, slice_index_or, OnOk, OnErr};
+ghost use Rattle.std.specs.Prelude.{◌≡◌, ◌≤◌, ◌<◌, [], length, slice_index_or, OnOk, OnErr};
 ghost use Rattle.std.specs.List.{All, flat_map};
 ghost use Rattle.dl_io.specs.Count.{HasRisen};
 ghost use Rattle.dl_io.specs.Gathering.{Takes, TakesPrefix, state_of};
 ghost use Rattle.dl_run.specs.Answered.{text_of, text_of_answers};
-ghost use Rattle.dl_run.specs.Output.{iri_of, joined_texts, tuple_line, answers_text};
-ghost use Rattle.dl_run.specs.Pieces.{digits_of, separator};
+ghost use Rattle.dl_run.specs.Output.{tuple_line, answers_text};
+ghost use Rattle.dl_run.specs.Pieces.{digits_of, opening, closing, opened};
 ghost use Rattle.dl_run.specs.Refusals.{refusal_text};
 ghost use Rattle.dl_run.specs.Told.{HasNamesBelow, told_text};
 
@@ -204,12 +204,12 @@ fn put_line<S: Sink>(
     ensures failed { OnErr result
         (HasRisen (S.faults out.old.sink.now) (S.faults out.new.sink.now)) }
 {
-    put_all(out, &["("])?;
     put_names(out, names, answers, row)?;
-    put_all(out, &[")\n"])
+    out.put(closing(answers.width()).as_bytes())
 }
 
-/// Prints the names of an answer, with a comma and a space between them.
+/// Prints the names of an answer, each behind what opens it. Few and long pieces count here: while one name comes from
+/// memory, the processor goes on with the next only where not much stands in between.
 fn put_names<S: Sink>(
     out: &mut GatheringSink<'_, S>,
     names: &Names,
@@ -220,9 +220,9 @@ fn put_names<S: Sink>(
     requires named { All (λ n. n < length names.now) (slice_index_or answers.now.tuples row []) }
     ensures same_reference { out.new.sink.ghost_name ≡ out.old.sink.ghost_name }
     ensures all { OnOk result (Takes (state_of S.got out.old) (state_of S.got out.new)
-        (joined_texts (map (iri_of names.now) (slice_index_or answers.now.tuples row [])))) }
+        (opened names.now 0 (slice_index_or answers.now.tuples row []))) }
     ensures prefix { OnErr result (TakesPrefix (state_of S.got out.old) (state_of S.got out.new)
-        (joined_texts (map (iri_of names.now) (slice_index_or answers.now.tuples row [])))) }
+        (opened names.now 0 (slice_index_or answers.now.tuples row []))) }
     ensures count { S.faults out.old.sink.now ≤ S.faults out.new.sink.now }
     ensures failed { OnErr result
         (HasRisen (S.faults out.old.sink.now) (S.faults out.new.sink.now)) }
@@ -231,21 +231,26 @@ fn put_names<S: Sink>(
         put_all(
             out,
             &[
-                separator(column),
-                "<",
+                opening(column),
                 names.text(answers.name(row, column)),
-                ">",
             ],
         )?;
     }
     Ok(())
 }
 
-/// What stands before a name of an answer.
-fn separator<'a>(column: u32) -> &'a str
-    ensures { result.now ≡ separator column }
+/// What stands before a name of an answer: what closes the name before it, too.
+fn opening<'a>(column: u32) -> &'a str
+    ensures { result.now ≡ opening column }
 {
-    if column == 0 { "" } else { ", " }
+    if column == 0 { "(<" } else { ">, <" }
+}
+
+/// What stands behind the names of an answer, by how many they are.
+fn closing<'a>(width: u32) -> &'a str
+    ensures { result.now ≡ closing width }
+{
+    if width == 0 { "()\n" } else { ">)\n" }
 }
 
 /// Prints pieces one after another.

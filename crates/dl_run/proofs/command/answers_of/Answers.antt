@@ -42,9 +42,9 @@ returns-in_err-query-clause-says g c =
 
 pub input_of-requires : goal.input_of-requires
 input_of-requires g c = record {
-  ontology_fits = rw c.as_slice.ensures.value c.in_ok-ontology.ensures.fits;
-  data_fits = rw c.as_slice-2.ensures.value c.in_ok-facts.ensures.fits;
-  query_fits = rw c.as_slice-3.ensures.value c.in_ok-query.ensures.fits;
+  ontology_fits = c.in_ok-ontology.ensures.fits;
+  data_fits = c.in_ok-facts.ensures.fits;
+  query_fits = c.in_ok-query.ensures.fits;
 }
 
 pub returns-in_err-asked-clause-says : goal.returns-in_err-asked-clause-says
@@ -54,10 +54,10 @@ returns-in_err-asked-clause-says g c =
     let p = err_from_is_err_and c.from_residual-in_err-asked.result c.from_residual-in_err-asked.ensures.1 in
     let one = c.in_ok-ontology.ensures in
     let two = c.in_ok-facts.ensures in
-    says_stop w.ontology.now w.facts.now w.query.now w.limit told _ c.as_slice.result.now c.as_slice-2.result.now c.as_slice-3.result.now
-    (rw (← c.as_slice.ensures.value) at one.whole)
-    (rw (← c.as_slice-2.ensures.value) at (rw one.unchanged at two.whole))
-    (rw (← c.as_slice-3.ensures.value) at (rw (two.unchanged, one.unchanged) at c.in_ok-query.ensures.whole))
+    says_stop w.ontology.now w.facts.now w.query.now w.limit told _ c.in_ok-ontology.ontology.items c.in_ok-facts.facts.items c.in_ok-query.query.items
+    one.whole
+    (rw one.unchanged at two.whole)
+    (rw (two.unchanged, one.unchanged) at c.in_ok-query.ensures.whole)
     p.0 c.from_residual-in_err-asked.result p.1 (rw p.2 c.in_err-asked.ensures)
 
 pub returns-in_err-reserve-clause-says : goal.returns-in_err-reserve-clause-says
@@ -79,9 +79,9 @@ returns-clause-says g c =
     let one = c.in_ok-ontology.ensures in
     let two = c.in_ok-facts.ensures in
     let asked = c.in_ok-asked.asked in
-    says_replies w.ontology.now w.facts.now w.query.now w.limit told _ c.as_slice.result.now c.as_slice-2.result.now c.as_slice-3.result.now
-    (rw (← c.as_slice.ensures.value) at one.whole)
-    (rw (← c.as_slice-2.ensures.value) at (rw one.unchanged at two.whole))
-    (rw (← c.as_slice-3.ensures.value) at (rw (two.unchanged, one.unchanged) at c.in_ok-query.ensures.whole))
+    says_replies w.ontology.now w.facts.now w.query.now w.limit told _ c.in_ok-ontology.ontology.items c.in_ok-facts.facts.items c.in_ok-query.query.items
+    one.whole
+    (rw one.unchanged at two.whole)
+    (rw (two.unchanged, one.unchanged) at c.in_ok-query.ensures.whole)
     (load_of asked) asked.query c.in_ok-asked.ensures.0 c.in_ok-asked.ensures.1
     c.answers_for.result c.answers_for.ensures

@@ -9,27 +9,27 @@ use Rattle.dl_run.proofs.input.input_of.Goals as goal
 pub returns-in_err-document : goal.returns-in_err-document
 returns-in_err-document c =
     let p = err_from_is_err_and c.from_residual.result c.from_residual.ensures.1 in
-    ontology_stops c.args.ontology.now c.args.facts.now c.args.query.now c.requires _ p.0 c.from_residual.result p.1 p.2
-    (rw c.new-names.ensures at c.in_err-document.ensures.fault)
+    ontology_stops c.args.ontology.items c.args.facts.items c.args.query.items c.requires _ p.0 c.from_residual.result p.1 p.2
+    (rw (c.as_slice.ensures.value, c.new-names.ensures) at c.in_err-document.ensures.fault)
 
 pub returns-in_err-triples : goal.returns-in_err-triples
 returns-in_err-triples c =
     let p = err_from_is_err_and c.from_residual-in_err-triples.result c.from_residual-in_err-triples.ensures.1 in
-    data_stops c.args.ontology.now c.args.facts.now c.args.query.now c.requires _ _ (rw c.new-names.ensures at c.in_ok-document.ensures.value)
-    _ p.0 c.from_residual-in_err-triples.result p.1 p.2 c.in_err-triples.ensures.fault
+    data_stops c.args.ontology.items c.args.facts.items c.args.query.items c.requires _ _ (rw (c.as_slice.ensures.value, c.new-names.ensures) at c.in_ok-document.ensures.value)
+    _ p.0 c.from_residual-in_err-triples.result p.1 p.2 (rw c.as_slice-2.ensures.value at c.in_err-triples.ensures.fault)
 
 pub returns-in_err-read : goal.returns-in_err-read
 returns-in_err-read c =
     let p = err_from_is_err_and c.from_residual-in_err-read.result c.from_residual-in_err-read.ensures.1 in
-    let value = rw c.new-names.ensures at c.in_ok-document.ensures.value in
-    query_stops c.args.ontology.now c.args.facts.now c.args.query.now c.requires _ _ value _ _ _
-    (record { fit = c.requires; first = _; is_ontology = value; is_data = c.in_ok-triples.ensures.value })
-    _ _ p.0 c.from_residual-in_err-read.result p.1 p.2 c.in_err-read.ensures.fault
+    let value = rw (c.as_slice.ensures.value, c.new-names.ensures) at c.in_ok-document.ensures.value in
+    query_stops c.args.ontology.items c.args.facts.items c.args.query.items c.requires _ _ value _ _ _
+    (record { fit = c.requires; first = _; is_ontology = value; is_data = rw c.as_slice-2.ensures.value at c.in_ok-triples.ensures.value })
+    _ _ p.0 c.from_residual-in_err-read.result p.1 p.2 (rw c.as_slice-3.ensures.value at c.in_err-read.ensures.fault)
 
 pub returns-in_err-asked : goal.returns-in_err-asked
 returns-in_err-asked c =
     let p = err_from_is_err_and c.from_residual-in_err-asked.result c.from_residual-in_err-asked.ensures.1 in
-    memory_stops c.args.ontology.now c.args.facts.now c.args.query.now p.0 c.from_residual-in_err-asked.result p.1 p.2
+    memory_stops c.args.ontology.items c.args.facts.items c.args.query.items p.0 c.from_residual-in_err-asked.result p.1 p.2
 
 pub numbered-requires-clause-well_formed : goal.numbered-requires-clause-well_formed
 numbered-requires-clause-well_formed c = (c.in_ok-read.ensures.ok).well_formed
@@ -57,12 +57,12 @@ numbered-requires-clause-triples_placed c =
 pub returns-in_err-judge : goal.returns-in_err-judge
 returns-in_err-judge c =
     let p = err_from_is_err_and c.from_residual-in_err-judge.result c.from_residual-in_err-judge.ensures.1 in
-    gives_stop c.args.ontology.now c.args.facts.now c.args.query.now c.in_ok-document.document c.in_ok-triples.triples _ _ c.in_ok-read.read c.in_ok-asked.asked
-    (record { fit = c.requires; first = _; is_ontology = rw c.new-names.ensures at c.in_ok-document.ensures.value; is_data = c.in_ok-triples.ensures.value })
-    c.in_ok-read.ensures.ok c.in_ok-asked.ensures.numbered p.0 c.from_residual-in_err-judge.result p.1 (rw p.2 c.in_err-judge.ensures)
+    gives_stop c.args.ontology.items c.args.facts.items c.args.query.items c.in_ok-document.document c.in_ok-triples.triples _ _ c.in_ok-read.read c.in_ok-asked.asked
+    (record { fit = c.requires; first = _; is_ontology = rw (c.as_slice.ensures.value, c.new-names.ensures) at c.in_ok-document.ensures.value; is_data = rw c.as_slice-2.ensures.value at c.in_ok-triples.ensures.value })
+    (rw c.as_slice-3.ensures.value at c.in_ok-read.ensures.ok) c.in_ok-asked.ensures.numbered p.0 c.from_residual-in_err-judge.result p.1 (rw p.2 c.in_err-judge.ensures)
 
 pub returns : goal.returns
 returns c =
-    gives_asked c.args.ontology.now c.args.facts.now c.args.query.now c.in_ok-document.document c.in_ok-triples.triples _ _ c.in_ok-read.read c.in_ok-asked.asked
-    (record { fit = c.requires; first = _; is_ontology = rw c.new-names.ensures at c.in_ok-document.ensures.value; is_data = c.in_ok-triples.ensures.value })
-    c.in_ok-read.ensures.ok c.in_ok-asked.ensures.numbered c.in_ok-judge.ensures c.in_ok-asked.ensures.made
+    gives_asked c.args.ontology.items c.args.facts.items c.args.query.items c.in_ok-document.document c.in_ok-triples.triples _ _ c.in_ok-read.read c.in_ok-asked.asked
+    (record { fit = c.requires; first = _; is_ontology = rw (c.as_slice.ensures.value, c.new-names.ensures) at c.in_ok-document.ensures.value; is_data = rw c.as_slice-2.ensures.value at c.in_ok-triples.ensures.value })
+    (rw c.as_slice-3.ensures.value at c.in_ok-read.ensures.ok) c.in_ok-asked.ensures.numbered c.in_ok-judge.ensures c.in_ok-asked.ensures.made

@@ -10,7 +10,7 @@ returns-in_err-put_all-clause-prefix g c =
     let is : slice_get c.args.names.now (get_or tuple c.loop-column.column 0) ≡ Some c.text.result.now =
     subst (λ n. slice_get c.args.names.now n ≡ Some c.text.result.now) c.name.ensures c.text.ensures in
     OnErr-anyway c.from_residual.result _
-    (TakesPrefix-name c.args.names.now tuple c.loop-column.column inside _ _ _ c.separator.result.now c.text.result.now is c.separator.ensures
+    (TakesPrefix-name c.args.names.now tuple c.loop-column.column inside _ _ _ c.opening.result.now c.text.result.now is c.opening.ensures
     c.loop-column.invariant.taken c.in_err-put_all.ensures.prefix)
 
 pub loop-column-preserved : goal.loop-column-preserved
@@ -21,7 +21,7 @@ loop-column-preserved g c =
     subst (λ n. slice_get c.args.names.now n ≡ Some c.text.result.now) c.name.ensures c.text.ensures in
     record {
       same_reference = search rules;
-      taken = Takes-name c.args.names.now tuple c.loop-column.column inside _ _ _ c.separator.result.now c.text.result.now is c.separator.ensures
+      taken = Takes-name c.args.names.now tuple c.loop-column.column inside _ _ _ c.opening.result.now c.text.result.now is c.opening.ensures
           c.loop-column.invariant.taken c.in_ok-put_all.ensures.all;
       count = search rules;
     }
