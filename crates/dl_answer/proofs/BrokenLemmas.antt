@@ -25,12 +25,13 @@ use Rattle.dl_join.specs.Tuples.{AreExactly}
 use Rattle.dl_join.specs.declared.fault.JoinFault.{JoinFault}
 use Rattle.dl_join.specs.declared.fault.JoinFault.TheVariants as join
 use Rattle.dl_terms.specs.Table.{Table}
-use Rattle.dl_answer.specs.Replies.{AreOver, GivesTuples}
-use Rattle.dl_terms.specs.Reply.{IsReply, inconsistent, too_many, found}
+use Rattle.dl_answer.specs.Replies.{AreOver, GivesTuples, RepliesTo}
+use Rattle.dl_answer.specs.declared.fault.AskFault.{AskFault}
+use Rattle.dl_terms.specs.Reply.{IsReply, inconsistent, found}
 use Rattle.dl_terms.specs.Reply.IsReply.{is_inconsistent, is_too_many, is_found}
 use Rattle.dl_answer.specs.declared.broken.Verdict.{Verdict}
 use Rattle.dl_answer.specs.declared.broken.Verdict.TheVariants.{Broken, Sound}
-use Rattle.dl_answer.specs.Verdicts.{IsFirstMet, FindsMet, HasMember, Finds}
+use Rattle.dl_answer.specs.Verdicts.{IsFirstMet, FindsMet, HasMember, Finds, fault_of}
 
 -- ---- a negative is met where its query has the tuple without names
 
@@ -229,7 +230,16 @@ module _ (axioms : List Axiom) (facts : List Fact) (nothing : Option ℕ) (q : Q
       let told = subst (GivesTuples (IsCertain axioms facts q) limit) is gives in
       is_found none (record { ascending = told.0.ascending; exact = told.0.exact }) told.1
 
-  pub many_told : (fault : JoinFault) → r ≡ Err fault → fault ≡ join.TooMany → IsReply axioms facts nothing q limit too_many
-  many_told fault is made =
-      let over = subst (GivesTuples (IsCertain axioms facts q) limit) (is ∙ ap Err made) gives in
-      is_too_many none (record { ascending = over.exact.ascending; exact = over.exact.exact }) over.longer
+  pub fault_told : (fault : JoinFault) (made : AskFault) → r ≡ Err fault → made ≡ fault_of fault
+      → RepliesTo axioms facts nothing q limit 1 (Err made)
+  fault_told fault made is same =
+      subst (λ m. RepliesTo axioms facts nothing q limit 1 (Err m)) (sym same)
+      (by fault (subst (GivesTuples (IsCertain axioms facts q) limit) is gives))
+    where
+      by : (fault : JoinFault) → GivesTuples (IsCertain axioms facts q) limit (Err fault)
+          → RepliesTo axioms facts nothing q limit 1 (Err (fault_of fault))
+      by join.TooMany over = (
+        is_too_many none (record { ascending = over.exact.ascending; exact = over.exact.exact }) over.longer,
+        refl,
+      )
+      by join.NoMemory gone = tt

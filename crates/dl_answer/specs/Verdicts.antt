@@ -9,6 +9,10 @@ use Rattle.dl_terms.specs.declared.role.Negative.{Negative}
 use Rattle.dl_terms.specs.declared.role.Negative.TheVariants.{Basics}
 use Rattle.dl_terms.specs.declared.axiom.Axiom.{Axiom}
 use Rattle.dl_terms.specs.declared.axiom.Fact.{Fact}
+use Rattle.dl_join.specs.declared.fault.JoinFault.{JoinFault}
+use Rattle.dl_join.specs.declared.fault.JoinFault.TheVariants as join
+use Rattle.dl_answer.specs.declared.fault.AskFault.{AskFault}
+use Rattle.dl_answer.specs.declared.fault.AskFault.TheVariants.{TooMany, NoMemory}
 use Rattle.dl_answer.specs.declared.broken.Verdict.{Verdict}
 use Rattle.dl_answer.specs.declared.broken.Verdict.TheVariants.{Broken, Sound}
 
@@ -35,3 +39,8 @@ HasMember axioms facts None = ⊥
 abbrev pub Finds : List Axiom → List Fact → Option ℕ → Verdict → Type 0
 Finds axioms facts nothing (Broken broken) = IsFirstBroken axioms facts nothing broken
 Finds axioms facts nothing Sound = NothingIsBroken axioms facts nothing
+
+-- what a fault of the search for tuples means, at version 1
+abbrev pub fault_of : JoinFault → AskFault
+fault_of join.TooMany = TooMany 1
+fault_of join.NoMemory = NoMemory

@@ -1,5 +1,5 @@
 // A query asked of lists of axioms and facts.
-ghost use Rattle.std.specs.Prelude.{◌≤◌, ℕ, List as Items, Option as Maybe, IfOk};
+ghost use Rattle.std.specs.Prelude.{◌≡◌, ◌≤◌, ℕ, List as Items, Option as Maybe, IfOk};
 ghost use Rattle.dl_terms.specs.Answers.{IsCertain};
 ghost use Rattle.dl_terms.specs.Broken.{NothingIsBroken};
 ghost use Rattle.dl_terms.specs.Queries.{IsWellFormed};
@@ -13,6 +13,7 @@ ghost use Rattle.dl_hier.specs.Rows.{HasNames, AreFew, ArePredicatesOf};
 ghost use Rattle.dl_rewrite.specs.Known.{HasRolesOf};
 ghost use Rattle.dl_answer.specs.Facts.{HasPredicates};
 ghost use Rattle.dl_answer.specs.Replies.{normal_form, max_weight, RepliesTo, GivesTuples};
+ghost use Rattle.dl_answer.specs.Verdicts.{fault_of};
 
 use crate::broken::{Verdict, first_broken};
 use crate::certain::certain;
@@ -63,8 +64,17 @@ fn told(tuples: Result<Tuples, JoinFault>) -> Result<Answer, AskFault>
 {
     match tuples {
         Ok(tuples) => Ok(Answer::Found { version: 1, tuples }),
-        Err(JoinFault::TooMany) => Err(AskFault::TooMany { version: 1 }),
-        Err(JoinFault::NoMemory) => Err(AskFault::NoMemory),
+        Err(fault) => Err(fault_of(fault)),
+    }
+}
+
+/// What a fault of the search for tuples means.
+fn fault_of(fault: JoinFault) -> AskFault
+    ensures { result ≡ fault_of fault }
+{
+    match fault {
+        JoinFault::TooMany => AskFault::TooMany { version: 1 },
+        JoinFault::NoMemory => AskFault::NoMemory,
     }
 }
 

@@ -19,21 +19,20 @@ use Rattle.dl_run.specs.declared.stop.Stop.TheVariants.{Refused, ReadFault, NoMe
 use Rattle.dl_run.specs.declared.told.Told.{Told}
 
 module _ (asked : Asked) (limit : ℕ) (r : Result Answer AskFault) (answers : AnswersAsked asked limit r) where
-  pub found_told : (answer : Answer) (version : ℕ) (tuples : Table) → r ≡ Ok answer → answer ≡ Found version tuples
+  pub found_told : (version : ℕ) (tuples : Table) → r ≡ Ok (Found version tuples)
       → IsReply asked.axioms asked.facts asked.nothing asked.query limit (found tuples.tuples)
-  found_told answer version tuples is made = (subst (AnswersAsked asked limit) (is ∙ ap Ok made) answers).0
+  found_told version tuples is = (subst (AnswersAsked asked limit) is answers).0
 
-  pub broken_told : (answer : Answer) (version : ℕ) (broken : Option Axiom) → r ≡ Ok answer
-      → answer ≡ Inconsistent version broken
+  pub broken_told : (version : ℕ) (broken : Option Axiom) → r ≡ Ok (Inconsistent version broken)
       → IsReply asked.axioms asked.facts asked.nothing asked.query limit (inconsistent broken)
-  broken_told answer version broken is made = (subst (AnswersAsked asked limit) (is ∙ ap Ok made) answers).0
+  broken_told version broken is = (subst (AnswersAsked asked limit) is answers).0
 
-  pub many_told : (why : AskFault) (version : ℕ) → r ≡ Err why → why ≡ fault.TooMany version
+  pub many_told : (version : ℕ) → r ≡ Err (fault.TooMany version)
       → IsReply asked.axioms asked.facts asked.nothing asked.query limit too_many
-  many_told why version is made = (subst (AnswersAsked asked limit) (is ∙ ap Err made) answers).0
+  many_told version is = (subst (AnswersAsked asked limit) is answers).0
 
-  pub never_unpinned : (why : AskFault) → r ≡ Err why → why ≡ fault.NoPin → ⊥
-  never_unpinned why is made = subst (AnswersAsked asked limit) (is ∙ ap Err made) answers
+  pub never_unpinned : r ≡ Err fault.NoPin → ⊥
+  never_unpinned is = subst (AnswersAsked asked limit) is answers
 
 module _ (load : Load) (asked : Query) (limit : ℕ) (stop : Stop) where
   -- want of memory is told as such

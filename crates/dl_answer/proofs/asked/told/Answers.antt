@@ -1,5 +1,5 @@
 use Rattle.std.proofs.Common.{refl}
-use Rattle.dl_answer.proofs.BrokenLemmas.{found_told, many_told}
+use Rattle.dl_answer.proofs.BrokenLemmas.{found_told, fault_told}
 use Rattle.dl_answer.proofs.asked.told.Goals as goal
 
 pub returns-in-Ok : goal.returns-in-Ok
@@ -8,9 +8,6 @@ returns-in-Ok c = λ axioms facts nothing q limit none gives. (
   refl,
 )
 
-pub returns-in-Err-TooMany : goal.returns-in-Err-TooMany
-returns-in-Err-TooMany c = λ axioms facts nothing q limit none gives. (
-  many_told axioms facts nothing q limit c.args.tuples none gives c.in-Err-TooMany.field-0 c.in-Err-TooMany.is
-      c.in-Err-TooMany.field-0-is,
-  refl,
-)
+pub returns-in-Err : goal.returns-in-Err
+returns-in-Err c = λ axioms facts nothing q limit none gives.
+    fault_told axioms facts nothing q limit c.args.tuples none gives c.in-Err.fault c.fault_of.result c.in-Err.is c.fault_of.ensures

@@ -7,15 +7,13 @@ use Rattle.dl_run.proofs.replies.told_of.Goals as goal
 
 pub returns-in-Ok-Found : goal.returns-in-Ok-Found
 returns-in-Ok-Found c =
-    found_told c.args.asked.now c.args.limit c.args.answer c.requires _ _ c.in-Ok-Found.tuples c.in-Ok-Found.is
-    c.in-Ok-Found.field-0-is
+    found_told c.args.asked.now c.args.limit c.args.answer c.requires _ c.in-Ok-Found.tuples c.in-Ok-Found.is
 
 pub broken_text-text-requires : goal.broken_text-text-requires
 broken_text-text-requires c =
     let asked = c.args.asked.now in
     broken_named asked.axioms (length asked.names) asked.axioms_named
-    (broken_told asked c.args.limit c.args.answer c.requires _ _ c.in-Ok-Inconsistent.axiom c.in-Ok-Inconsistent.is
-    c.in-Ok-Inconsistent.field-0-is)
+    (broken_told asked c.args.limit c.args.answer c.requires _ c.in-Ok-Inconsistent.axiom c.in-Ok-Inconsistent.is)
 
 pub returns-in_err-text : goal.returns-in_err-text
 returns-in_err-text c =
@@ -26,17 +24,16 @@ returns-in_err-text c =
 pub returns-in-Ok-Inconsistent : goal.returns-in-Ok-Inconsistent
 returns-in-Ok-Inconsistent c = (
   c.in-Ok-Inconsistent.axiom,
-  broken_told c.args.asked.now c.args.limit c.args.answer c.requires _ _ c.in-Ok-Inconsistent.axiom
-      c.in-Ok-Inconsistent.is c.in-Ok-Inconsistent.field-0-is,
+  broken_told c.args.asked.now c.args.limit c.args.answer c.requires _ c.in-Ok-Inconsistent.axiom c.in-Ok-Inconsistent.is,
   c.in_ok-text.ensures,
 )
 
 pub returns-in-Err-TooMany : goal.returns-in-Err-TooMany
 returns-in-Err-TooMany c = (
   refl,
-  many_told c.args.asked.now c.args.limit c.args.answer c.requires _ _ c.in-Err-TooMany.is c.in-Err-TooMany.field-0-is,
+  many_told c.args.asked.now c.args.limit c.args.answer c.requires _ c.in-Err-TooMany.is,
 )
 
 pub unreachable-requires : goal.unreachable-requires
 unreachable-requires c =
-    never_unpinned c.args.asked.now c.args.limit c.args.answer c.requires _ c.in-Err-NoPin.is c.in-Err-NoPin.field-0-is
+    never_unpinned c.args.asked.now c.args.limit c.args.answer c.requires c.in-Err-NoPin.is
