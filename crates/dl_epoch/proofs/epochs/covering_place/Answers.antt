@@ -1,7 +1,13 @@
-use Rattle.std.proofs.Common.{◌<◌, map, sym, subst, arith}
+use Rattle.std.proofs.Common.{◌-◌, ◌<◌, map, sym, ap, subst, arith}
+use Rattle.std.proofs.lemmas.List.{length-map}
 use Rattle.dl_epoch.specs.Covering.{kept}
-use Rattle.dl_epoch.proofs.CoveringLemmas.{Looks-before, place_small, first_at}
+use Rattle.dl_epoch.proofs.CoveringLemmas.{Looks, Looks-last, Looks-before, place_small, first_at}
 use Rattle.dl_epoch.proofs.epochs.covering_place.Goals as goal
+
+pub loop-place-init : goal.loop-place-init
+loop-place-init c =
+    let entries = c.args.entries.now in
+    subst (Looks (map kept entries) c.args.version) (ap (λ n. n - 1) (length-map entries kept)) (Looks-last (map kept entries) c.args.version c.requires.one)
 
 pub loop-place-preserved : goal.loop-place-preserved
 loop-place-preserved c =
