@@ -4,6 +4,7 @@ use Rattle.std.specs.List.{All, Any}
 use Rattle.std.proofs.lemmas.Bool.{cases_lt}
 use Rattle.std.proofs.lemmas.List.{get_or_default, get_or_append_left, get_or_push, length_push, length-take-le, take_more}
 use Rattle.std.proofs.lemmas.List.Elements.{All-push, All-weaker}
+use Rattle.dl_terms.specs.declared.query.Term.{Term}
 use Rattle.dl_terms.specs.declared.query.Term.TheVariants.{Var, Name}
 use Rattle.dl_terms.specs.declared.query.Probe.{Probe}
 use Rattle.dl_terms.specs.declared.query.Probe.TheVariants.{AnyOf, Joined}
@@ -15,7 +16,7 @@ use Rattle.dl_join.specs.Disjuncts.{AllHold, ProbeHolds, IsTuple, HasVariable, I
 use Rattle.dl_join.specs.Tuples.{AreExactly, AreMoreThan}
 use Rattle.dl_join.specs.Gathering.{Has, Gathers}
 use Rattle.dl_join.specs.Needs.{AreAscending, NeedHolds, Mentions}
-use Rattle.dl_join.specs.Searching.{IsGiven, IsReady}
+use Rattle.dl_join.specs.Searching.{IsGiven, IsCovered, IsReady}
 use Rattle.dl_join.specs.Probing.{IsClosed, kept_pairs, IsNeedOf, AreKept, AreNeedsOf, IsBackward, AreTurned, AreTurnedLists, IsFitted, AreFitted, CanBeFitted}
 use Rattle.dl_join.proofs.ListLemmas.{Any-append_left, Any-append_right, Any-first, Any-Contains}
 use Rattle.dl_join.proofs.GatherLemmas.{AreMoreThan-weaker}
@@ -129,58 +130,71 @@ no_variable v (Joined role (Name a) (Name b)) closed has = elim has [ inl e ↦ 
 pub lists_ascend : (lists : List (List (ℕ × ℕ))) → AreSorted lists → All (AreAscending First) lists
 lists_ascend lists sorted = λ k d h. sorted_ascending (get_or lists k d) (sorted k d h)
 
-module _ (d : Disjunct) (lists : List (List (ℕ × ℕ))) (needs fitted : List Need) (order : List ℕ) (are : AreNeedsOf d.probes lists needs) (fits : AreFitted order needs fitted) where
-  -- each probe has a fitted need, or no variable
+module _ (d : Disjunct) (lists : List (List (ℕ × ℕ))) (needs : List Need) (are : AreNeedsOf d.probes lists needs) where
+  -- each probe has a need, or no variable
   all_hold : (names : ℕ → ℕ) → ((k : ℕ) (p : Probe) → k < length d.probes → IsClosed (get_or d.probes k p) → ProbeHolds names (get_or lists k []) (get_or d.probes k p))
-      → All (NeedHolds names) fitted → AllHold names d.probes lists
+      → All (NeedHolds names) needs → AllHold names d.probes lists
   all_hold names closed all = λ k p h. elim (are.to k p h) [
     | inl is ↦ closed k p h is
-    | inr any ↦
-        (let need = any.1 in
-        let place = any.2 in
-        let size = fits.count in
-        let inside : any.0 < length fitted = omega arith in
-        let fit : IsFitted order need (get_or fitted any.0 need) = subst (λ n. IsFitted order n (get_or fitted any.0 need)) any.3 (fits.each any.0 need any.2) in
-        any.4.to names (fit.to names (all any.0 need inside)))
+    | inr any ↦ any.4.to names (subst (NeedHolds names) any.3 (all any.0 any.1 any.2))
   ]
 
-  needs_hold : (names : ℕ → ℕ) → AllHold names d.probes lists → All (NeedHolds names) fitted
+  needs_hold : (names : ℕ → ℕ) → AllHold names d.probes lists → All (NeedHolds names) needs
   needs_hold names all = λ k e h.
-      let size = fits.count in
-      let place : k < length needs = omega arith in
-      let fit = fits.each k e place in
-      let w = are.from k e place in
+      let w = are.from k e h in
       let p : Probe = AnyOf [] (Name 0) in
-      fit.from names ((w.2 p).from names (all w.0 p w.1))
+      (w.2 p).from names (all w.0 p w.1)
 
   pub given_tuple : ((names : ℕ → ℕ) (k : ℕ) (p : Probe) → k < length d.probes → IsClosed (get_or d.probes k p) → ProbeHolds names (get_or lists k []) (get_or d.probes k p))
-      → (t : List ℕ) → IsGiven fitted d.head t → IsTuple d lists t
+      → (t : List ℕ) → IsGiven needs d.head t → IsTuple d lists t
   given_tuple closed t g = record { names = g.names; probes = all_hold g.names (closed g.names) g.holds; head = g.gives }
 
-  pub tuple_given : (t : List ℕ) → IsTuple d lists t → IsGiven fitted d.head t
+  pub tuple_given : (t : List ℕ) → IsTuple d lists t → IsGiven needs d.head t
   tuple_given t is = record { names = is.names; holds = needs_hold is.names is.probes; gives = is.head }
 
-  -- a variable of a probe is in its fitted need
-  mentioned : (v : ℕ) → Any (HasVariable v) d.probes → Any (Mentions v) fitted
+  -- a variable of a probe is in its need
+  mentioned : (v : ℕ) → Any (HasVariable v) d.probes → Any (Mentions v) needs
   mentioned v w =
       let probe = w.1 in
       elim (are.to w.0 probe w.2) [
         | inl closed ↦ absurd (no_variable v (get_or d.probes w.0 probe) closed (subst (HasVariable v) (sym w.3) w.4))
-        | inr any ↦
-            (let need = any.1 in
-            let size = fits.count in
-            let place = any.2 in
-            let inside : any.0 < length fitted = omega arith in
-            let fit : IsFitted order need (get_or fitted any.0 need) = subst (λ n. IsFitted order n (get_or fitted any.0 need)) any.3 (fits.each any.0 need any.2) in
-            let m = fit.variables v (any.4.variables v (subst (HasVariable v) (sym w.3) w.4)) in
-            Any-Contains (Mentions v) fitted (get_or fitted any.0 need) (any.0, inside, get_or_default fitted any.0 (get_or fitted any.0 need) need inside) m)
+        | inr any ↦ (any.0, any.1, any.2, any.3, any.4.variables v (subst (HasVariable v) (sym w.3) w.4))
       ]
 
-  pub join_ready : IsSafe d → IsReady order fitted d.head
-  join_ready safe = record {
+  pub head_covered : IsSafe d → IsCovered needs d.head
+  head_covered safe = λ v w. mentioned v (safe v w)
+
+-- ---- needs that are fitted to an order give the same tuples
+
+module _ (order : List ℕ) (needs fitted : List Need) (head : List Term) (fits : AreFitted order needs fitted) where
+  pub given_fitted : (t : List ℕ) → IsGiven needs head t → IsGiven fitted head t
+  given_fitted t g = record {
+    names = g.names;
+    holds = λ k e h. (let size = fits.count in let place : k < length needs = omega arith in (fits.each k e place).from g.names (g.holds k e place));
+    gives = g.gives;
+  }
+
+  pub fitted_given : (t : List ℕ) → IsGiven fitted head t → IsGiven needs head t
+  fitted_given t g = record {
+    names = g.names;
+    holds = λ k e h. (let size = fits.count in (fits.each k e h).to g.names (g.holds k e (omega arith)));
+    gives = g.gives;
+  }
+
+  still_mentioned : (v : ℕ) → Any (Mentions v) needs → Any (Mentions v) fitted
+  still_mentioned v any =
+      let need = any.1 in
+      let size = fits.count in
+      let place = any.2 in
+      let inside : any.0 < length fitted = omega arith in
+      let fit : IsFitted order need (get_or fitted any.0 need) = subst (λ n. IsFitted order n (get_or fitted any.0 need)) any.3 (fits.each any.0 need any.2) in
+      Any-Contains (Mentions v) fitted (get_or fitted any.0 need) (any.0, inside, get_or_default fitted any.0 (get_or fitted any.0 need) need inside) (fit.variables v any.4)
+
+  pub fitted_ready : IsCovered needs head → IsReady order fitted head
+  fitted_ready covered = record {
     ascending = λ k e h. (let size = fits.count in (fits.each k e (omega arith)).ascending);
     fits = λ k e h. (let size = fits.count in (fits.each k e (omega arith)).fits);
-    covered = λ v w. mentioned v (safe v w);
+    covered = λ v w. still_mentioned v (covered v w);
   }
 
 -- what was gathered from nothing is exactly what was given

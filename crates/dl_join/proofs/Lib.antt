@@ -6,6 +6,7 @@ pub mod JoinLemmas
 pub mod NeedLemmas
 pub mod NarrowLemmas
 pub mod SearchLemmas
+pub mod LeafLemmas
 pub mod LevelLemmas
 pub mod MergeLemmas
 pub mod GatherLemmas

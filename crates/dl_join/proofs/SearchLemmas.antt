@@ -16,7 +16,7 @@ use Rattle.dl_terms.proofs.MemberLemmas.{Contains-cons}
 use Rattle.dl_join.proofs.ListLemmas.{Any-append_left, Any-append_right, Any-append_cases, Any-weaker, All-Any, All-left, All-right}
 
 -- an item of one list is beside that of another
-All-at : {X : Type 0} (P : X → Type 0) (xs : List X) (x : X) → All P xs → (w : Contains xs x) → P x
+pub All-at : {X : Type 0} (P : X → Type 0) (xs : List X) (x : X) → All P xs → (w : Contains xs x) → P x
 All-at P xs x all w = subst P w.2 (all w.0 x w.1)
 
 -- ---- names with one changed
@@ -24,10 +24,10 @@ All-at P xs x all w = subst P w.2 (all w.0 x w.1)
 abbrev pub renaming : (ℕ → ℕ) → ℕ → ℕ → ℕ → ℕ
 renaming names v x u = cond (u == v) x (names u)
 
-renaming-same : (names : ℕ → ℕ) (v x : ℕ) → renaming names v x v ≡ x
+pub renaming-same : (names : ℕ → ℕ) (v x : ℕ) → renaming names v x v ≡ x
 renaming-same names v x = grind (arith, nat_tests)
 
-renaming-other : (names : ℕ → ℕ) (v x u : ℕ) → u ≢ v → renaming names v x u ≡ names u
+pub renaming-other : (names : ℕ → ℕ) (v x u : ℕ) → u ≢ v → renaming names v x u ≡ names u
 renaming-other names v x u differs = grind (arith, nat_tests)
 
 -- a need without the variable holds as before

@@ -4,3 +4,4 @@ pub mod Needs
 pub mod Searching
 pub mod Probing
 pub mod Gathering
+pub mod Leaves

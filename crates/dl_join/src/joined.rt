@@ -11,10 +11,8 @@ ghost use Rattle.dl_join.specs.Tuples.{AreExactly, AreMoreThan};
 use crate::JoinFault;
 use crate::gather::Gathered;
 use crate::need::Need;
-use crate::order::order_of;
 use crate::probe::{fails, kept, need_of};
-use crate::search::search;
-use crate::turn::{fitted_needs, turned_lists};
+use crate::reduced::reduced;
 use dl_terms::{Disjunct, List, Pair, Probe, Tuples};
 use std::alloc::{AllocError, Global};
 
@@ -45,18 +43,7 @@ pub fn join(
     }
     let made = kept_lists(alloc, probes, lists)?;
     let needs = needs_of(alloc, probes, lists, made.as_slice())?;
-    let order = order_of(alloc, needs.as_slice(), head)?;
-    let turned = turned_lists(alloc, order.as_slice(), needs.as_slice())?;
-    let fitted = fitted_needs(alloc, order.as_slice(), needs.as_slice(), turned.as_slice())?;
-    let mut spare = Vec::new(alloc);
-    search(
-        alloc,
-        order.as_slice(),
-        fitted.as_slice(),
-        head,
-        &mut spare,
-        &mut gathered,
-    )?;
+    reduced(alloc, needs.as_slice(), head, needs.len(), &mut gathered)?;
     gathered.finish()
 }
 

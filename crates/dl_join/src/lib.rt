@@ -4,11 +4,13 @@
 mod fault;
 mod gather;
 mod joined;
+mod leaf;
 mod meet;
 mod merged;
 mod need;
 mod order;
 mod probe;
+mod reduced;
 mod safe;
 mod search;
 mod turn;

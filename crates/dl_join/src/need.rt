@@ -23,6 +23,18 @@ pub struct Need<'a> {
     pub pairs: &'a [Pair],
 }
 
+/// A need, for as long as it is lent.
+pub fn again<'a>(need: &'a Need<'_>) -> Need<'a>
+    ensures { result ≡ need.now }
+{
+    Need {
+        at: need.at,
+        other: need.other,
+        column: need.column,
+        pairs: need.pairs,
+    }
+}
+
 /// The name of a pair in a column.
 pub fn name_in(pair: Pair, column: Column) -> u32
     ensures { result ≡ in_column column pair }

@@ -1,16 +1,23 @@
 // The order of the variables: connected to those before, the smallest list first, those of the head first, ties by
 // number.
 ghost use Rattle.std.specs.Prelude.{◌≡◌, ℕ, ◌<◌, ◌↔◌, length, IfOk, OnOk, IsTrue};
-ghost use Rattle.std.specs.List.{Contains};
+ghost use Rattle.std.specs.List.{Any, Contains};
 ghost use Rattle.dl_join.specs.Probing.{OrdersAll, AddsVariables, is_first};
 
 use crate::need::Need;
+use crate::safe::is_variable;
 use dl_terms::{Pair, Term};
 use std::alloc::{AllocError, Global};
 
+/// How many bits the lists of an existential variable count more: it comes before one of the head where they are
+/// shorter than a sixteenth.
+const EXISTENTIAL: u32 = 4;
+
 /// The variables of needs in the order of the search: of those that a need joins with one before, or of all where
 /// there is none, those whose smallest list is the smallest (lengths with the same power of two below them are
-/// alike), of these one of the head where there is one, and of these the one with the least number.
+/// alike, and those of an existential variable count sixteenfold), of these one of the head where there is one, and of
+/// these the one with the least number. Existential variables that no need joins with another one come last, since
+/// only whether they have a name is asked.
 pub fn order_of(alloc: Global, needs: &[Need<'_>], head: &[Term]) -> Result<Vec<u8>, AllocError>
     ensures { IfOk result (λ order. OrdersAll order.items needs.now) }
 {
@@ -85,10 +92,13 @@ fn place_of_next(needs: &[Need<'_>], head: &[Term], before: &[u8], waiting: &[u8
     place
 }
 
-/// What is smaller comes first: whether no need joins the variable with one before, the size of its smallest list,
-/// whether it isn't in the head, and its number.
-fn rank(needs: &[Need<'_>], head: &[Term], before: &[u8], var: u8) -> (bool, u32, bool, u8) {
+/// What is smaller comes first: whether no need joins the variable with one before, whether it is existential and none
+/// joins it with any other, the size of its smallest list (that of an existential one sixteenfold), whether it isn't in
+/// the head, and its number.
+fn rank(needs: &[Need<'_>], head: &[Term], before: &[u8], var: u8) -> (bool, bool, u32, bool, u8) {
+    let existential = !names(head, var);
     let mut apart = true;
+    let mut alone = existential;
     let mut size = u32::MAX;
     for need in needs {
         let neighbour = if need.at == var {
@@ -99,11 +109,15 @@ fn rank(needs: &[Need<'_>], head: &[Term], before: &[u8], var: u8) -> (bool, u32
             continue;
         };
         size = size.min(bits(need.pairs));
-        if neighbour.is_some_and(|other| has(before, other)) {
-            apart = false;
+        if let Some(other) = neighbour {
+            alone = false;
+            apart &= !has(before, other);
         }
     }
-    (apart, size, !names(head, var), var)
+    if existential {
+        size = size.saturating_add(EXISTENTIAL);
+    }
+    (apart, alone, size, existential, var)
 }
 
 /// How many bits the length of a list has.
@@ -112,12 +126,12 @@ fn bits(pairs: &[Pair]) -> u32 {
 }
 
 /// True where a head has a variable.
-fn names(head: &[Term], var: u8) -> bool {
+pub fn names(head: &[Term], var: u8) -> bool
+    ensures { IsTrue result ↔ Any (λ t. t ≡ Term.Var var) head.now }
+{
     for term in head {
-        if let Term::Var(v) = *term {
-            if v == var {
-                return true;
-            }
+        if is_variable(*term, var) {
+            return true;
         }
     }
     false

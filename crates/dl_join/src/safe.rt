@@ -45,7 +45,8 @@ fn has(probe: &Probe, v: u8) -> bool
     }
 }
 
-fn is_variable(term: Term, v: u8) -> bool
+/// True where a term is a variable.
+pub fn is_variable(term: Term, v: u8) -> bool
     ensures { IsTrue result ↔ (term ≡ Term.Var v) }
 {
     match term {

@@ -4,7 +4,7 @@ ghost use Rattle.std.specs.List.{All, Contains};
 ghost use Rattle.dl_join.specs.Needs.{Mentions};
 ghost use Rattle.dl_join.specs.Probing.{OrdersAll, is_first, IsBackward, AreTurned, AreTurnedLists, AreFitted, IsFitted, CanBeFitted};
 
-use crate::need::{Column, Need};
+use crate::need::{Column, Need, again};
 use crate::order::is_before;
 use dl_terms::{List, Pair, set_of};
 use std::alloc::{AllocError, Global};
@@ -65,7 +65,7 @@ fn turned_list(alloc: Global, order: &[u8], need: &Need<'_>) -> Result<List<Pair
 pub fn fitted_needs<'a>(
     alloc: Global,
     order: &[u8],
-    needs: &[Need<'a>],
+    needs: &'a [Need<'_>],
     lists: &'a [List<Pair>],
 ) -> Result<Vec<Need<'a>>, AllocError>
     requires order { OrdersAll order.now needs.now }
@@ -75,24 +75,24 @@ pub fn fitted_needs<'a>(
 {
     let mut fitted = Vec::new(alloc);
     for (i, need) in needs.iter().enumerate() {
-        fitted.push(fitted_need(order, *need, lists[i].as_slice()))?;
+        fitted.push(fitted_need(order, need, lists[i].as_slice()))?;
     }
     Ok(fitted)
 }
 
-fn fitted_need<'a>(order: &[u8], need: Need<'a>, turned: &'a [Pair]) -> Need<'a>
-    requires order { (v : ℕ) → Mentions v need → Contains order.now v }
-    requires need { CanBeFitted need }
-    requires turned { (w : ℕ) → IsBackward order.now need w → AreTurned need.pairs.now turned.now }
-    ensures { IsFitted order.now need.entry result }
+fn fitted_need<'a>(order: &[u8], need: &'a Need<'_>, turned: &'a [Pair]) -> Need<'a>
+    requires order { (v : ℕ) → Mentions v need.now → Contains order.now v }
+    requires need { CanBeFitted need.now }
+    requires turned { (w : ℕ) → IsBackward order.now need.now w → AreTurned need.now.pairs.now turned.now }
+    ensures { IsFitted order.now need.now result }
 {
-    match backward(order, &need) {
+    match backward(order, need) {
         Some(other) => Need {
             at: other,
             other: Some(need.at),
             column: Column::First,
             pairs: turned,
         },
-        None => need,
+        None => again(need),
     }
 }

@@ -109,6 +109,41 @@ const ROWS: &[Row] = &[
         &[&[]],
     ),
     (&[X], &[(X, None, CLASS), (FOUR, None, CLASS)], &[]),
+    // Existential variables that hang on one other alone: behind a class, by two probes, several on one, and all.
+    (
+        &[X],
+        &[(X, Some(Y), CHAIN), (Y, Some(Z), CHAIN), (Z, None, CLASS)],
+        &[&[1]],
+    ),
+    (
+        &[X],
+        &[
+            (X, Some(Y), CHAIN),
+            (Y, Some(Z), LOOPS),
+            (Z, Some(Y), LOOPS),
+            (Z, None, CLASS),
+        ],
+        &[&[1], &[2]],
+    ),
+    (
+        &[Y],
+        &[
+            (X, Some(Y), CHAIN),
+            (Y, Some(Z), CHAIN),
+            (Y, Some(W), CHAIN),
+            (W, None, CLASS),
+        ],
+        &[&[2]],
+    ),
+    (
+        &[],
+        &[
+            (X, Some(Y), CHAIN),
+            (Y, Some(Z), CHAIN),
+            (Z, Some(W), CHAIN),
+        ],
+        &[&[]],
+    ),
     // Two parts that share nothing.
     (
         &[W, X],

@@ -1,5 +1,5 @@
-// The order in which a join takes its variables: joins that end at once in it, and in another order go over more
-// than 1,000,000,000 names.
+// The order in which a join takes its variables, and leaves taken off: joins that end at once so, and else go over
+// more than 1,000,000,000 names.
 ghost use Rattle.std.specs.Prelude.{◌≡◌, length, IfOk, OnOk};
 ghost use Rattle.std.specs.List.Sorted.{IsSorted};
 ghost use Rattle.dl_join.specs.Disjuncts.{pair_cmp, AreSorted};
@@ -12,11 +12,14 @@ use std::test::Fail;
 /// How many names the lists have.
 const NAMES: u32 = 2_000;
 
-/// The pairs to and from name 0, those of each name and the next one, and a name that no pair has.
+/// The pairs to and from name 0, those of each name and the next one, each second name, name 0, and a name that no
+/// pair has.
 #[derive(Clone, Copy)]
 enum Pairs {
     Hub,
     Chain,
+    Half,
+    Zero,
     Past,
 }
 
@@ -74,6 +77,31 @@ const ROWS: &[(&[Term], &[Atom], u64)] = &[
         ],
         0,
     ),
+    // Leaves taken off, one after the other: else three names are free back from the class.
+    (
+        &[X],
+        &[
+            (X, Some(Y), Pairs::Hub),
+            (Y, Some(Z), Pairs::Hub),
+            (Z, Some(U), Pairs::Hub),
+            (U, Some(V), Pairs::Hub),
+            (V, Some(W), Pairs::Hub),
+            (W, None, Pairs::Zero),
+        ],
+        2_000,
+    ),
+    // Existential variables that nothing joins come last, whatever their lists: else each tuple is found 1,000,000,000
+    // times.
+    (
+        &[X, Y],
+        &[
+            (X, Some(Y), Pairs::Chain),
+            (Z, None, Pairs::Half),
+            (U, None, Pairs::Half),
+            (V, None, Pairs::Half),
+        ],
+        2_000,
+    ),
 ];
 
 fn pair_at(pairs: Pairs, i: u32) -> Pair {
@@ -81,6 +109,8 @@ fn pair_at(pairs: Pairs, i: u32) -> Pair {
     match pairs {
         Pairs::Hub => { if i % 2 == 0 { (0, name) } else { (name, 0) } }
         Pairs::Chain => (name, name.saturating_add(1)),
+        Pairs::Half => (i, i),
+        Pairs::Zero => (0, 0),
         Pairs::Past => (NAMES + 1, NAMES + 1),
     }
 }
@@ -89,6 +119,8 @@ fn count_of(pairs: Pairs) -> u32 {
     match pairs {
         Pairs::Hub => 2 * NAMES,
         Pairs::Chain => 2 * NAMES,
+        Pairs::Half => NAMES / 2,
+        Pairs::Zero => 1,
         Pairs::Past => 1,
     }
 }

@@ -1,8 +1,7 @@
-use Rattle.std.proofs.Common.{◌≡◌, ◌∙◌, ◌<◌, inl, inr, true, false, List, length, get_or, refl, sym, subst, take, true≢false}
+use Rattle.std.proofs.Common.{◌≡◌, ◌∙◌, inl, inr, get_or, refl, sym, subst, take, true≢false}
 use Rattle.std.specs.List.{Any, Contains}
 use Rattle.std.proofs.lemmas.List.{get_or_default, take_more, take_all}
 use Rattle.std.proofs.lemmas.List.Elements.{Contains-push_cases}
-use Rattle.dl_terms.specs.declared.query.Term.{Term}
 use Rattle.dl_terms.specs.declared.query.Term.TheVariants.{Var, Name}
 use Rattle.dl_join.specs.Disjuncts.{HasVariable}
 use Rattle.dl_join.proofs.safe.is_safe.Goals as goal

@@ -1,4 +1,4 @@
-use Rattle.std.proofs.Common.{◌≡◌, refl}
+use Rattle.std.proofs.Common.{refl}
 use Rattle.dl_terms.specs.Sets.{IsSetOf}
 use Rattle.dl_join.specs.declared.gather.Gathered.{Gathered}
 use Rattle.dl_join.specs.Tuples.{tuple_cmp}
