@@ -1,4 +1,5 @@
 pub mod Chain
 pub mod Digraph
 pub mod Matrix
+pub mod Rows
 pub mod Search

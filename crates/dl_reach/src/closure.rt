@@ -1,8 +1,9 @@
-ghost use Rattle.std.specs.Prelude.{◌≡◌, ℕ, ◌+◌, ◌*◌, ◌<◌, ◌≤◌, ◌↔◌, ◌⊎◌, length, IfOk, IsTrue, Contains};
+ghost use Rattle.std.specs.Prelude.{◌≡◌, ℕ, ◌+◌, ◌*◌, ◌<◌, ◌≤◌, ◌↔◌, ◌⊎◌, true, length, IfOk, IsTrue, Contains};
 ghost use Rattle.std.specs.List.Sorted.{IsNonDecreasingBy};
 ghost use Rattle.dl_reach.specs.Chain.{Chain};
 ghost use Rattle.dl_reach.specs.Digraph.{Digraph, max_nodes, IsEdge, Leads, EndsBelow, AreConnected};
-ghost use Rattle.dl_reach.specs.Matrix.{HasBit, HasChains};
+ghost use Rattle.dl_reach.specs.Matrix.{HasBit, HasRow, HasChains};
+ghost use Rattle.dl_reach.specs.Rows.{row_has};
 
 use crate::graph::Graph;
 use crate::matrix::{close, follow_all, has_bit, set_bits, set_diagonal};
@@ -54,6 +55,16 @@ impl Closure {
         has_bit(&self.words, self.width, from as usize, to as usize)
     }
 
+    /// The nodes that chains lead to from this one, as bits: that of node `i` is bit `i % 64`, from the lowest, of the
+    /// word `i / 64`. It takes no memory.
+    pub fn row(&self, from: u32) -> &[u64]
+        requires { from < self.now.nodes }
+        ensures { (to : ℕ) → to < self.now.nodes
+            → (row_has result.now to ≡ true) ↔ Chain (IsEdge self.now) from to }
+    {
+        row_of(&self.words, self.width, from as usize)
+    }
+
     /// The least node that chains lead to from this one and back.
     pub fn class_of(&self, node: u32) -> u32
         requires { node < self.now.nodes }
@@ -70,6 +81,15 @@ impl Closure {
     {
         self.graph.nodes()
     }
+}
+
+/// The words of a row.
+fn row_of(words: &[u64], width: usize, row: usize) -> &[u64]
+    requires { HasRow words.now width row }
+    ensures { (column : ℕ) → column < 64 * width
+        → (row_has result.now column ≡ true) ↔ HasBit words.now width row column }
+{
+    &words[row * width..row * width + width]
 }
 
 /// The bits of all chains of the edges.
