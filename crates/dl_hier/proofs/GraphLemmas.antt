@@ -10,11 +10,11 @@ use Rattle.dl_terms.specs.declared.role.Basic.TheVariants.{Class, SomeOf}
 use Rattle.dl_terms.specs.declared.role.Normal.{Normal}
 use Rattle.dl_terms.specs.declared.axiom.Axiom.{Axiom}
 use Rattle.dl_reach.specs.Digraph.{Digraph, EndsBelow}
-use Rattle.dl_hier.specs.Predicates.{Predicates, roles, basics}
+use Rattle.dl_hier.specs.Predicates.{Predicates, AreInOrder, roles, basics}
 use Rattle.dl_hier.specs.Rows.{HasInclusions, role_steps, concept_steps}
 use Rattle.dl_hier.specs.Hierarchy.{IsHierarchyOf}
 use Rattle.dl_hier.specs.Nodes.{StandsAt, ends_of}
-use Rattle.dl_hier.specs.Graphs.{AreEdges, shifted, hierarchy_over}
+use Rattle.dl_hier.specs.Graphs.{AreEdges, AreBothWays, AreTurned, IsClosureOf, shifted, hierarchy_over}
 use Rattle.dl_hier.proofs.MemberLemmas.{Contains-map, Contains-map_of, StandsAt-default}
 use Rattle.dl_hier.proofs.PredicateLemmas.{basic-at_role, length-basics}
 use Rattle.dl_hier.proofs.StepLemmas.{IsHierarchyOf-rows}
@@ -145,3 +145,44 @@ pub ends_at_most : (n m : ℕ) (edges slice : List (ℕ × ℕ)) → slice ≡ e
 ends_at_most n m edges slice same ends le =
     subst (EndsBelow m) (sym same)
     (All-weaker (λ e. (e.0 < n) × (e.1 < n)) (λ e. (e.0 < m) × (e.1 < m)) (λ e h. (omega (arith, h.0, le), omega (arith, h.1, le))) edges ends)
+
+-- what is built from the rows of a normal form
+module _ (p : Predicates) (normal : Normal) (role_rows : List (Role × Role)) (concept_rows : List (Basic × Basic)) (of_roles of_basics slice : List (ℕ × ℕ))
+    (are_roles : role_rows ≡ normal.roles) (are_concepts : concept_rows ≡ normal.concepts) (same : slice ≡ of_roles)
+    (of_rows : AreEdges (named 0) (roles p) (role_steps role_rows) of_roles)
+    (of_concepts : (steps : List (Role × Role)) → AreEdges (named 0) (roles p) steps slice
+    → AreEdges (Class 0) (basics p) (concept_steps steps concept_rows) of_basics) where
+  pub built_roles : AreEdges (named 0) (roles p) (role_steps normal.roles) of_roles
+  built_roles = subst (λ l. AreEdges (named 0) (roles p) (role_steps l) of_roles) are_roles of_rows
+
+  pub built_basics : AreEdges (Class 0) (basics p) (concept_steps (role_steps normal.roles) normal.concepts) of_basics
+  built_basics =
+      subst (λ l. AreEdges (Class 0) (basics p) (concept_steps (role_steps normal.roles) l) of_basics) are_concepts
+      (of_concepts (role_steps normal.roles) (subst (AreEdges (named 0) (roles p) (role_steps normal.roles)) (sym same) built_roles))
+
+  module _ (role_slice basic_slice : List (ℕ × ℕ)) (same_r : role_slice ≡ of_roles) (same_b : basic_slice ≡ of_basics) (r b : Digraph)
+      (is_r : IsClosureOf (length (roles p)) role_slice r) (is_b : IsClosureOf (length (basics p)) basic_slice b) where
+    same_roles : SameEdges r.edges of_roles
+    same_roles = subst (SameEdges r.edges) same_r is_r.edges
+
+    same_basics : SameEdges b.edges of_basics
+    same_basics = subst (SameEdges b.edges) same_b is_b.edges
+
+    pub built_hierarchy : (axioms : List Axiom) → HasInclusions axioms normal → IsHierarchyOf (hierarchy_over p r b) axioms
+    built_hierarchy = IsHierarchyOf-graphs p normal r b of_roles of_basics built_roles built_basics same_roles same_basics
+
+    pub built : (list : List Role) → AreInOrder p → list ≡ roles p → (role_slice_too basic_slice_too : List (ℕ × ℕ)) → role_slice_too ≡ of_roles
+        → basic_slice_too ≡ of_basics → (back_r back_b : Digraph) → AreTurned p role_slice_too basic_slice_too back_r back_b
+        → AreBothWays p list r b back_r back_b
+    built list order listed role_slice_too basic_slice_too too_r too_b back_r back_b turned = record {
+      graphs = record {
+        order = order;
+        listed = listed;
+        role_nodes = is_r.nodes;
+        role_ends = ends_same (length (roles p)) r.edges of_roles same_roles built_roles.ends;
+        basic_nodes = is_b.nodes;
+        basic_ends = ends_same (length (basics p)) b.edges of_basics same_basics built_basics.ends;
+      };
+      role_turned = turned.of_roles r (subst (SameEdges r.edges) (sym too_r) same_roles);
+      basic_turned = turned.of_basics b (subst (SameEdges b.edges) (sym too_b) same_basics);
+    }

@@ -9,3 +9,4 @@ pub mod PickLemmas
 pub mod NameLemmas
 pub mod SearchLemmas
 pub mod HierLemmas
+pub mod TurnedLemmas

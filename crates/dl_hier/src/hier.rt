@@ -1,4 +1,4 @@
-ghost use Rattle.std.specs.Prelude.{◌≡◌, ◌+◌, ◌≤◌, ◌↔◌, ◌⊎◌, [], ◌∷◌, List as Items, Contains, IfOk, IsTrue, OnOk};
+ghost use Rattle.std.specs.Prelude.{◌≡◌, ℕ, ◌+◌, ◌<◌, ◌≤◌, ◌↔◌, ◌⊎◌, [], ◌∷◌, List as Items, true, length, slice_index_or, Contains, IfOk, IsTrue, OnOk};
 ghost use Rattle.std.specs.List.Sorted.{IsStrictlySortedBy};
 ghost use Rattle.dl_terms.specs.Order.{role_cmp};
 ghost use Rattle.dl_terms.specs.Roles.{named, inverse_of};
@@ -6,6 +6,7 @@ ghost use Rattle.dl_terms.specs.Below.{RoleBelow, ConceptBelow};
 ghost use Rattle.dl_terms.specs.declared.role.Role.{Role};
 ghost use Rattle.dl_terms.specs.declared.role.Basic.TheVariants.{Class, SomeOf};
 ghost use Rattle.dl_terms.specs.declared.axiom.Axiom.{Axiom};
+ghost use Rattle.dl_reach.specs.Rows.{row_has};
 ghost use Rattle.dl_hier.specs.Predicates.{roles, basics};
 ghost use Rattle.dl_hier.specs.Rows.{HasInclusions, HasNames, AreFew, ArePredicatesOf};
 ghost use Rattle.dl_hier.specs.Hierarchy.{IsHierarchyOf};
@@ -13,7 +14,7 @@ ghost use Rattle.dl_hier.specs.Below.{IsBelowOneOf, AreThose};
 ghost use Rattle.dl_hier.specs.Picking.{AreTargets};
 
 use crate::below::{Below, names_leading, roles_reached};
-use crate::edges::{closure_of, concept_edges, inverse_of, push_shifted, role_edges};
+use crate::edges::{basic_edges, closures, inverse_of, leading_node, role_edges, turned};
 use crate::nodes::Nodes;
 use dl_reach::Closure;
 use dl_terms::{Basic, List, NoMemory, Normal, Role, Signature};
@@ -29,17 +30,20 @@ pub struct Hier {
     roles: List<Role>,
     role_closure: Closure,
     basic_closure: Closure,
+    turned_roles: Closure,
+    turned_basics: Closure,
 }
 
 impl Model for Hier {
     ghost use Rattle.dl_hier.specs.Hierarchy.{Hierarchy};
-    ghost use Rattle.dl_hier.specs.Graphs.{hierarchy_over, AreGraphsOf};
+    ghost use Rattle.dl_hier.specs.Graphs.{hierarchy_over, AreBothWays};
 
     ghost Value = { Hierarchy };
 
     ghost view = { λ h. hierarchy_over h.nodes h.role_closure h.basic_closure };
 
-    ghost invariant = { λ h. AreGraphsOf h.nodes h.roles h.role_closure h.basic_closure };
+    ghost invariant = { λ h.
+        AreBothWays h.nodes h.roles h.role_closure h.basic_closure h.turned_roles h.turned_basics };
 }
 
 impl Hier {
@@ -56,16 +60,17 @@ impl Hier {
         let nodes = Nodes::of(alloc, normal, signature)?;
         let roles = nodes.roles(alloc)?;
         let role_edges = role_edges(alloc, &nodes, normal.roles.as_slice())?;
-        let mut basic_edges = concept_edges(alloc, &nodes, normal.concepts.as_slice())?;
-        push_shifted(&mut basic_edges, nodes.class_count(), &role_edges)?;
-        let role_closure = closure_of(alloc, nodes.role_count(), &role_edges)?;
-        let count = nodes.class_count() + nodes.role_count();
-        let basic_closure = closure_of(alloc, count, &basic_edges)?;
+        let concepts = normal.concepts.as_slice();
+        let basic_edges = basic_edges(alloc, &nodes, concepts, &role_edges)?;
+        let (role_closure, basic_closure) = closures(alloc, &nodes, &role_edges, &basic_edges)?;
+        let (turned_roles, turned_basics) = turned(alloc, &nodes, &role_edges, &basic_edges)?;
         Ok(Hier {
             nodes,
             roles,
             role_closure,
             basic_closure,
+            turned_roles,
+            turned_basics,
         })
     }
 
@@ -204,6 +209,32 @@ impl Hier {
                 )
             }
             None => Ok(List::new(alloc)),
+        }
+    }
+
+    /// The roles of the hierarchy below a role, as bits: that of the i-th role of `roles` is bit `i % 64`, from the
+    /// lowest, of the word `i / 64`. There may be fewer words, or more. It takes no memory.
+    pub fn bits_below(&self, role: Role) -> &[u64]
+        ensures { (axioms : Items Axiom) → IsHierarchyOf self.now axioms →
+            (i : ℕ) → i < length (roles self.now.predicates) → (row_has result.now i ≡ true)
+            ↔ RoleBelow axioms (slice_index_or (roles self.now.predicates) i (named 0)) role }
+    {
+        match self.nodes.role(role) {
+            Some(node) => self.turned_roles.row(node),
+            None => &[],
+        }
+    }
+
+    /// The roles t of the hierarchy with "some inverse of t" below a basic concept, as bits in the same way: those at
+    /// whose words in the canonical structure it holds. It takes no memory.
+    pub fn bits_leading(&self, basic: Basic) -> &[u64]
+        ensures { (axioms : Items Axiom) → IsHierarchyOf self.now axioms →
+            (i : ℕ) → i < length (roles self.now.predicates) → (row_has result.now i ≡ true)
+            ↔ ConceptBelow axioms (SomeOf (inverse_of (slice_index_or (roles self.now.predicates) i (named 0)))) basic }
+    {
+        match self.nodes.basic(basic) {
+            Some(node) => self.turned_basics.row(leading_node(&self.nodes, node)),
+            None => &[],
         }
     }
 }
