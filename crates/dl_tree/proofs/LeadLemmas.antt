@@ -1,13 +1,11 @@
 -- Rows of roles from which a role of another row is reached: in one step, and by chains.
-use Rattle.std.proofs.Common.{◌≡◌, ℕ, ◌+◌, ◌<◌, ◌⊎◌, ◌↔◌, inl, inr, Bool, true, false, not, cond, List, [], ◌∷◌, ◌++◌, length, set, get_or, refl, sym, ap, subst, ◌∙◌, arith, get_or-set_other, true≢false}
+use Rattle.std.proofs.Common.{◌≡◌, ℕ, ◌+◌, ◌*◌, ◌<◌, ◌≤◌, ◌⊎◌, ◌↔◌, inl, inr, Bool, true, false, not, cond, List, length, set, get_or, refl, sym, ap, subst, ◌∙◌, arith, get_or-set_other}
 use Rattle.std.specs.List.{Contains, count_by}
 use Rattle.std.specs.List.Sorted.{IsStrictlySortedBy}
 use Rattle.std.proofs.lemmas.List.Sums.{sum_by-set}
-use Rattle.std.proofs.lemmas.Bool.{cases_eq}
+use Rattle.std.proofs.lemmas.Bool.{cases_eq, cases_lt}
 use Rattle.std.proofs.lemmas.List.{get_or_default}
-use Rattle.std.proofs.lemmas.List.Elements.{Contains-get_or, Contains-push_cases}
-use Rattle.dl_terms.proofs.MemberLemmas.{Contains-nil}
-use Rattle.dl_terms.proofs.BelowLemmas.{Chain-trans}
+use Rattle.std.proofs.lemmas.List.Elements.{Contains-get_or}
 use Rattle.dl_terms.specs.Chain.{Chain, empty, step}
 use Rattle.dl_terms.specs.Order.{role_cmp}
 use Rattle.dl_terms.specs.Roles.{named, inverse_of}
@@ -20,7 +18,8 @@ use Rattle.dl_hier.specs.Predicates.{Predicates, roles}
 use Rattle.dl_hier.proofs.SortedLemmas.{one_index}
 use Rattle.dl_hier.proofs.PredicateLemmas.{inverse-known}
 use Rattle.dl_tree.specs.Below.{MayFollow}
-use Rattle.dl_tree.specs.Rows.{role_at, HasBit, TellsRow, IsBelowSomeOf, ChainLeadsTo}
+use Rattle.dl_reach.specs.Rows.{row_has}
+use Rattle.dl_tree.specs.Rows.{role_at, HasBit, IsMarked, TellsRow, ChainLeadsTo}
 use Rattle.dl_tree.proofs.FoldLemmas.{not_both}
 use Rattle.dl_tree.proofs.RowLemmas.{TellsRow-same}
 
@@ -34,25 +33,35 @@ follower_known p axioms known t u follow c = by (known (inverse_of t) u follow)
     by (inl e) = subst (Contains (roles p)) e (inverse-known p t c)
     by (inr k) = k.1
 
-module _ (axioms : List Axiom) (rs : List Role) (row : List Bool) where
+module _ (axioms : List Axiom) (rs : List Role) (row : List ℕ) where
   -- one of the first m roles of the row may follow
   abbrev pub LeadsBelow : ℕ → ℕ → Type 0
   LeadsBelow m i = (k : ℕ) × (k < m) × HasBit row k × MayFollow axioms (role_at rs i) (role_at rs k)
 
-  pub lead_first : (n m : ℕ) (found : List Bool) → m ≡ n → TellsRow m (λ _. false ≡ true) found → TellsRow n (LeadsBelow 0) found
-  lead_first n m found e told =
-      subst (λ k. TellsRow k (LeadsBelow 0) found) e
-      (TellsRow-same (λ _. false ≡ true) (LeadsBelow 0) m found (λ i l. (λ f. absurd (true≢false (sym f)), λ h. let k = h.1 in absurd (omega (arith, k)))) told)
+  pub lead_first : (n : ℕ) (found : List ℕ) → n ≤ 64 * length found → ((i : ℕ) → row_has found i ≡ false) → TellsRow n (LeadsBelow 0) found
+  lead_first n found wide none = record {
+    as_many = wide;
+    each = λ i l. (λ h. absurd (not_both h (none i)), λ h. let k = h.1 in absurd (omega (arith, k)));
+  }
 
-  -- what is said of a slice and a list of roles that are these
-  pub lead_told : (n m : ℕ) (slice found new : List Bool) (list : List Role) → slice ≡ found → list ≡ rs
+  -- places without bits are passed over
+  pub lead_skip : (n m to : ℕ) (found : List ℕ) → m ≤ to → ((k : ℕ) → m ≤ k → k < to → HasBit row k → ⊥) → TellsRow n (LeadsBelow m) found
+      → TellsRow n (LeadsBelow to) found
+  lead_skip n m to found le none told = TellsRow-same (LeadsBelow m) (LeadsBelow to) n found
+      (λ i l. (λ h. (h.0, (let k = h.1 in omega (arith, k, le)), h.2, h.3), λ h. by i h (cases_lt h.0 m))) told
+    where
+      by : (i : ℕ) (h : LeadsBelow to i) → (h.0 < m) ⊎ (m ≤ h.0) → LeadsBelow m i
+      by i h (inl k) = (h.0, k, h.2, h.3)
+      by i h (inr k) = absurd (none h.0 k h.1 h.2)
+
+  pub lead_told : (n m : ℕ) (slice found new : List ℕ) (list : List Role) → slice ≡ found → list ≡ rs
       → TellsRow n (λ i. HasBit slice i ⊎ MayFollow axioms (role_at rs i) (role_at list m)) new
       → TellsRow n (λ i. HasBit found i ⊎ MayFollow axioms (role_at rs i) (role_at rs m)) new
   lead_told n m slice found new list e f told =
       subst (λ z. TellsRow n (λ i. HasBit z i ⊎ MayFollow axioms (role_at rs i) (role_at rs m)) new) e
       (subst (λ z. TellsRow n (λ i. HasBit slice i ⊎ MayFollow axioms (role_at rs i) (role_at z m)) new) f told)
 
-  pub lead_next : (n m : ℕ) (found new : List Bool) → HasBit row m → TellsRow n (LeadsBelow m) found
+  pub lead_next : (n m : ℕ) (found new : List ℕ) → HasBit row m → TellsRow n (LeadsBelow m) found
       → TellsRow n (λ i. HasBit found i ⊎ MayFollow axioms (role_at rs i) (role_at rs m)) new → TellsRow n (LeadsBelow (m + 1)) new
   lead_next n m found new bit told more = TellsRow-same _ (LeadsBelow (m + 1)) n new same more
     where
@@ -70,52 +79,16 @@ module _ (axioms : List Axiom) (rs : List Role) (row : List Bool) where
           back h (inl k) = inl ((told.each i l).1 (h.0, k, h.2, h.3))
           back h (inr e) = inr (subst (λ k. MayFollow axioms (role_at rs i) (role_at rs k)) e h.3)
 
-  pub lead_same : (n m : ℕ) (found : List Bool) → (HasBit row m → ⊥) → TellsRow n (LeadsBelow m) found → TellsRow n (LeadsBelow (m + 1)) found
-  lead_same n m found none told = TellsRow-same (LeadsBelow m) (LeadsBelow (m + 1)) n found
-      (λ i l. (λ h. (h.0, (let k = h.1 in omega (arith, k)), h.2, h.3), λ h. by i h (cases h.0 m h.1))) told
-    where
-      cases : (k m : ℕ) → k < m + 1 → (k < m) ⊎ (k ≡ m)
-      cases k m l = grind arith
-
-      by : (i : ℕ) (h : LeadsBelow (m + 1) i) → (h.0 < m) ⊎ (h.0 ≡ m) → LeadsBelow m i
-      by i h (inl k) = (h.0, k, h.2, h.3)
-      by i h (inr e) = absurd (none (subst (HasBit row) e h.2))
-
-  -- what may follow into one of these roles is there
-  abbrev pub AllLead : List Bool → List Role → Type 0
-  AllLead found tops = (r : Role) → Contains tops r → (i : ℕ) → i < length rs → MayFollow axioms (role_at rs i) r → HasBit found i
-
-  pub all_lead_none : (found : List Bool) (tops : List Role) → tops ≡ [] → AllLead found tops
-  all_lead_none found tops none r c = absurd (Contains-nil r (subst (λ l. Contains l r) none c))
-
-  pub all_lead_next : (m : ℕ) (found new : List Bool) (tops more : List Role) → AllLead found tops
-      → TellsRow (length rs) (λ i. HasBit found i ⊎ MayFollow axioms (role_at rs i) (role_at rs m)) new → more ≡ tops ++ role_at rs m ∷ [] → AllLead new more
-  all_lead_next m found new tops more lead told pushed r c i l follow =
-      (told.each i l).1 (by (Contains-push_cases tops (role_at rs m) r (subst (λ z. Contains z r) pushed c)))
-    where
-      by : Contains tops r ⊎ (role_at rs m ≡ r) → HasBit found i ⊎ MayFollow axioms (role_at rs i) (role_at rs m)
-      by (inl k) = inl (lead r k i l follow)
-      by (inr e) = inr (subst (MayFollow axioms (role_at rs i)) (sym e) follow)
-
-  -- where "some" of a role is below "some" of one of these, nothing has to be put to the row
-  pub covered : (m : ℕ) (found : List Bool) (tops : List Role) → length found ≡ length rs → AllLead found tops → IsBelowSomeOf axioms tops (role_at rs m)
-      → TellsRow (length rs) (λ i. HasBit found i ⊎ MayFollow axioms (role_at rs i) (role_at rs m)) found
-  covered m found tops len lead below = record { as_many = len; each = λ i l. (λ h. inl h, by i l) }
-    where
-      by : (i : ℕ) → i < length rs → HasBit found i ⊎ MayFollow axioms (role_at rs i) (role_at rs m) → HasBit found i
-      by i l (inl h) = h
-      by i l (inr f) = lead below.0 below.1 i l (Chain-trans f below.2)
-
   -- ---- chains
 
   -- how far the search is: what is found leads to the row, and of what is done all that it may follow are found
-  pub record Searches (done found : List Bool) : Type 0 where
-    pub as_many : length found ≡ length rs
+  pub record Searches (done : List Bool) (found : List ℕ) : Type 0 where
+    pub as_many : length rs ≤ 64 * length found
     pub sound : (i : ℕ) → i < length rs → HasBit found i → ChainLeadsTo axioms rs row i
     pub kept : (i : ℕ) → i < length rs → HasBit row i → HasBit found i
-    pub closed : (i k : ℕ) → i < length rs → k < length rs → HasBit done k → MayFollow axioms (role_at rs i) (role_at rs k) → HasBit found i
+    pub closed : (i k : ℕ) → i < length rs → k < length rs → IsMarked done k → MayFollow axioms (role_at rs i) (role_at rs k) → HasBit found i
 
-  pub search_first : (done found : List Bool) → TellsRow (length rs) (HasBit row) found → ((i : ℕ) → get_or done i false ≡ false) → Searches done found
+  pub search_first : (done : List Bool) (found : List ℕ) → TellsRow (length rs) (HasBit row) found → ((i : ℕ) → get_or done i false ≡ false) → Searches done found
   search_first done found told none = record {
     as_many = told.as_many;
     sound = λ i l h. (i, l, (told.each i l).0 h, empty);
@@ -123,7 +96,7 @@ module _ (axioms : List Axiom) (rs : List Role) (row : List Bool) where
     closed = λ i k l m h. absurd (not_both h (none k));
   }
 
-  pub search_next : (done found new : List Bool) (m : ℕ) → m < length rs → m < length done → HasBit found m → Searches done found
+  pub search_next : (done : List Bool) (found new : List ℕ) (m : ℕ) → m < length rs → m < length done → HasBit found m → Searches done found
       → TellsRow (length rs) (λ i. HasBit found i ⊎ MayFollow axioms (role_at rs i) (role_at rs m)) new → Searches (set done m true) new
   search_next done found new m within within_done bit old more = record {
     as_many = more.as_many;
@@ -136,18 +109,18 @@ module _ (axioms : List Axiom) (rs : List Role) (row : List Bool) where
       sound i l (inl h) = old.sound i l h
       sound i l (inr f) = let w = old.sound m within bit in (w.0, w.1, w.2, step f w.3)
 
-      closed : (i k : ℕ) → i < length rs → k < length rs → HasBit (set done m true) k → MayFollow axioms (role_at rs i) (role_at rs k)
+      closed : (i k : ℕ) → i < length rs → k < length rs → IsMarked (set done m true) k → MayFollow axioms (role_at rs i) (role_at rs k)
           → (k ≡ m) ⊎ (k ≡ m → ⊥) → HasBit found i ⊎ MayFollow axioms (role_at rs i) (role_at rs m)
       closed i k l j h f (inl e) = inr (subst (λ z. MayFollow axioms (role_at rs i) (role_at rs z)) e f)
       closed i k l j h f (inr n) = inl (old.closed i k l j (sym (get_or-set_other done m k true false n) ∙ h) f)
 
   -- a role that is found
-  abbrev IsFound : List Bool → Role → Type 0
+  abbrev IsFound : List ℕ → Role → Type 0
   IsFound found t = (i : ℕ) × (i < length rs) × (role_at rs i ≡ t) × HasBit found i
 
-  pub search_done : (done found : List Bool) → IsStrictlySortedBy role_cmp rs
+  pub search_done : (done : List Bool) (found : List ℕ) → IsStrictlySortedBy role_cmp rs
       → ((t u : Role) → MayFollow axioms t u → Contains rs t → Contains rs u)
-      → ((i : ℕ) → i < length rs → HasBit found i → HasBit done i) → Searches done found → TellsRow (length rs) (ChainLeadsTo axioms rs row) found
+      → ((i : ℕ) → i < length rs → HasBit found i → IsMarked done i) → Searches done found → TellsRow (length rs) (ChainLeadsTo axioms rs row) found
   search_done done found ascending known all s = record {
     as_many = s.as_many;
     each = λ i l. (s.sound i l, λ h. found_at i l (back h.3 (Contains-get_or rs i (named 0) l) (h.0, h.1, refl, s.kept h.0 h.1 h.2)));

@@ -11,7 +11,10 @@ pub mod SubsetLemmas
 pub mod SplitLemmas
 pub mod NumberingLemmas
 pub mod VariableLemmas
+pub mod BitLemmas
 pub mod RowLemmas
+pub mod PassLemmas
+pub mod AskLemmas
 pub mod LeadLemmas
 pub mod EachLemmas
 pub mod PartLemmas

@@ -1,33 +1,52 @@
--- Rows, as far as they have come.
-use Rattle.std.proofs.Common.{◌≡◌, ℕ, ◌+◌, ◌<◌, ◌⊎◌, ◌↔◌, Bool, true, false, List, [], ◌∷◌, ◌++◌, length, length-append, get_or, sym, ap, subst, ◌∙◌, inl, inr, arith}
-use Rattle.std.proofs.lemmas.List.{get_or_append_left, get_or_at}
+-- What rows of bits tell.
+use Rattle.std.proofs.Common.{◌≡◌, ℕ, ◌*◌, ◌<◌, ◌≤◌, ◌⊎◌, ◌↔◌, Bool, true, false, ◌||◌, List, length, refl, sym, ap, ◌∙◌, inl, inr, arith}
+use Rattle.dl_reach.specs.Rows.{row_has}
 use Rattle.dl_tree.specs.Rows.{HasBit, TellsRow}
 
-pub TellsRow-none : (P : ℕ → Type 0) (row : List Bool) → row ≡ [] → TellsRow 0 P row
-TellsRow-none P row empty = record { as_many = ap length empty; each = λ i l. absurd (omega (arith, l)) }
-
--- one bit more
-pub TellsRow-push : (P : ℕ → Type 0) (n : ℕ) (old new : List Bool) (b : Bool) → TellsRow n P old → (b ≡ true) ↔ P n → new ≡ old ++ b ∷ [] → TellsRow (n + 1) P new
-TellsRow-push P n old new b tells here pushed = record {
-  as_many = ap length pushed ∙ length-append old (b ∷ []) ∙ ap (λ k. k + 1) tells.as_many;
-  each = λ i l. subst (λ row. HasBit row i ↔ P i) (sym pushed) (by i (cases i n l));
-}
-  where
-    cases : (i n : ℕ) → i < n + 1 → (i < n) ⊎ (i ≡ n)
-    cases i n l = grind arith
-
-    by : (i : ℕ) → (i < n) ⊎ (i ≡ n) → HasBit (old ++ b ∷ []) i ↔ P i
-    by i (inl k) =
-        let within : i < length old = let m = tells.as_many in omega (arith, k, m) in
-        let e = get_or_append_left old (b ∷ []) false i within in
-        (λ h. (tells.each i k).0 (sym e ∙ h), λ p. e ∙ (tells.each i k).1 p)
-    by i (inr k) =
-        let e : get_or (old ++ b ∷ []) i false ≡ b = get_or_at old b [] false i (tells.as_many ∙ sym k) in
-        (λ h. subst P (sym k) (here.0 (sym e ∙ h)), λ p. e ∙ here.1 (subst P k p))
-
 -- what a bit says in other words
-pub TellsRow-same : (P Q : ℕ → Type 0) (n : ℕ) (row : List Bool) → ((i : ℕ) → i < n → P i ↔ Q i) → TellsRow n P row → TellsRow n Q row
+pub TellsRow-same : (P Q : ℕ → Type 0) (n : ℕ) (row : List ℕ) → ((i : ℕ) → i < n → P i ↔ Q i) → TellsRow n P row → TellsRow n Q row
 TellsRow-same P Q n row same tells = record {
   as_many = tells.as_many;
   each = λ i l. (λ h. (same i l).0 ((tells.each i l).0 h), λ p. (tells.each i l).1 ((same i l).1 p));
+}
+
+-- one of two bits
+one_of : (a b : Bool) → (a || b) ≡ true → (a ≡ true) ⊎ (b ≡ true)
+one_of true b e = inl e
+one_of false b e = inr e
+
+pub of_one : (a b : Bool) → (a ≡ true) ⊎ (b ≡ true) → (a || b) ≡ true
+of_one true b h = refl
+of_one false b (inl e) = absurd (differ e)
+  where
+    differ : false ≡ true → ⊥
+    differ e = cc
+of_one false b (inr e) = e
+
+-- a row that another is put to
+pub joined_tells : (n : ℕ) (P : ℕ → Type 0) (old other new : List ℕ) → n ≤ 64 * length old → length new ≡ length old
+    → ((i : ℕ) → i < 64 * length old → row_has new i ≡ (row_has old i || row_has other i)) → ((i : ℕ) → i < n → HasBit other i ↔ P i)
+    → TellsRow n (λ i. HasBit old i ⊎ P i) new
+joined_tells n P old other new wide len bits told = record {
+  as_many = omega (arith, wide, len);
+  each = λ i l. (
+    λ h. split i l (one_of (row_has old i) (row_has other i) (sym (bits i (omega (arith, wide, l))) ∙ h)),
+    λ h. bits i (omega (arith, wide, l)) ∙ of_one (row_has old i) (row_has other i) (both i l h),
+  );
+}
+  where
+    split : (i : ℕ) → i < n → (row_has old i ≡ true) ⊎ (row_has other i ≡ true) → HasBit old i ⊎ P i
+    split i l (inl h) = inl h
+    split i l (inr h) = inr ((told i l).0 h)
+
+    both : (i : ℕ) → i < n → HasBit old i ⊎ P i → (row_has old i ≡ true) ⊎ (row_has other i ≡ true)
+    both i l (inl h) = inl h
+    both i l (inr p) = inr ((told i l).1 p)
+
+-- a row put to one without bits
+pub copy_tells : (n : ℕ) (old other new : List ℕ) → n ≤ 64 * length old → ((i : ℕ) → row_has old i ≡ false) → length new ≡ length old
+    → ((i : ℕ) → i < 64 * length old → row_has new i ≡ (row_has old i || row_has other i)) → TellsRow n (HasBit other) new
+copy_tells n old other new wide none len bits = record {
+  as_many = omega (arith, wide, len);
+  each = λ i l. let e = bits i (omega (arith, wide, l)) ∙ ap (λ b. b || row_has other i) (none i) in (λ h. sym e ∙ h, λ h. e ∙ h);
 }

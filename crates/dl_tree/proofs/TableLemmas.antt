@@ -26,11 +26,11 @@ use Rattle.dl_tree.specs.Folds.{FoldsBy}
 use Rattle.dl_tree.specs.Below.{minus, MayFollow, FoldsBelow, SplitsAtSome, IsClosedIn}
 use Rattle.dl_tree.specs.Each.{IsEach}
 use Rattle.dl_tree.specs.Masks.{place, set_of}
-use Rattle.dl_tree.specs.Tests.{crosses, column, AreTops, SomeSplit}
+use Rattle.dl_tree.specs.Tests.{crosses, column, tests_at, AreTops, SomeSplit}
 use Rattle.dl_tree.specs.Rows.{role_at, HasBit, TellsRow, LeadsTo, ChainLeadsTo}
 use Rattle.dl_tree.specs.Plans.{IsPlanFor, IsNext, IsRowFor, TellsBelowFor, FoldsAt, FoldsBelowAt, IsFoldRow}
 use Rattle.dl_tree.specs.Table.{IsRowOf, IsTableOf}
-use Rattle.dl_tree.specs.declared.atoms.AtomTest.{AtomTest}
+use Rattle.dl_tree.specs.declared.atoms.AtomRows.{AtomRows}
 use Rattle.dl_tree.proofs.FoldLemmas.{true_or_false, not_both, and_right, not_true}
 use Rattle.dl_tree.proofs.GraftLemmas.{FoldsBelow-connected, FoldsBelow-parts, FoldsBelow-none}
 use Rattle.dl_tree.proofs.DeepLemmas.{Folds-SplitsAtSome, Folds-Chain}
@@ -70,8 +70,8 @@ no_member ex v = by (true_or_false (set_of ex 0 v))
 place_of : (rs : List Role) (t : Role) → Contains rs t → (i : ℕ) × (i < length rs) × (role_at rs i ≡ t)
 place_of rs t c = (c.0, c.1, get_or_default rs c.0 (named 0) t c.1 ∙ c.2)
 
-module _ (h : Hierarchy) (axioms : List Axiom) (q : Query) (links : List (ℕ × ℕ)) (tests : List (List AtomTest)) (below : List (List Bool)) (s : ℕ)
-    (next : IsNext h axioms q links tests below s) where
+module _ (h : Hierarchy) (axioms : List Axiom) (q : Query) (links : List (ℕ × ℕ)) (atoms : List AtomRows) (below : List (List ℕ)) (s : ℕ)
+    (next : IsNext h axioms q links atoms below s) where
   abbrev rs : List Role
   rs = roles h.predicates
 
@@ -83,33 +83,32 @@ module _ (h : Hierarchy) (axioms : List Axiom) (q : Query) (links : List (ℕ ×
 
   -- ---- members at the role itself
 
-  bases_told : (tops : List ℕ) (row : List Bool) → AreTops links s tops
-      → TellsRow (length tests) (λ i. SomeSplit (slice_index_or tests i []) (column below i) tops s) row
+  bases_told : (tops : List ℕ) (row : List ℕ) → AreTops links s tops
+      → TellsRow (length rs) (λ i. SomeSplit (tests_at atoms i) (column below i) tops s) row
       → TellsRow (length rs) (λ i. SplitsAtSome axioms q set (role_at rs i)) row
   bases_told tops row are told =
-      TellsRow-same _ _ (length rs) row same
-      (subst (λ n. TellsRow n (λ i. SomeSplit (slice_index_or tests i []) (column below i) tops s) row) next.plan.asked.as_many told)
+      TellsRow-same _ _ (length rs) row same told
     where
-      same : (i : ℕ) → i < length rs → SomeSplit (slice_index_or tests i []) (column below i) tops s ↔ SplitsAtSome axioms q set (role_at rs i)
+      same : (i : ℕ) → i < length rs → SomeSplit (tests_at atoms i) (column below i) tops s ↔ SplitsAtSome axioms q set (role_at rs i)
       same i l = (
-        λ w. to_some axioms q ex (role_at rs i) (get_or tests i []) (next.plan.asked.each i l) (numbering q) next.plan.few (column below i) s next.fits
+        λ w. to_some axioms q ex (role_at rs i) (tests_at atoms i) (next.plan.asked i l) (numbering q) next.plan.few (column below i) s next.fits
             (next.told i l) w.0 (are.some w.0 w.1) (are.within w.0 w.1) w.2,
         λ k.
-            let w = from_some axioms q ex (role_at rs i) (get_or tests i []) (next.plan.asked.each i l) (numbering q) next.plan.few (column below i) s
+            let w = from_some axioms q ex (role_at rs i) (tests_at atoms i) (next.plan.asked i l) (numbering q) next.plan.few (column below i) s
             next.fits (next.told i l) k in
-            (w.0, are.each w.0 w.1 w.2 (may_from axioms q ex (role_at rs i) (get_or tests i []) (next.plan.asked.each i l) links next.plan.masks (column below i) s w.0 w.3), w.3),
+            (w.0, are.each w.0 w.1 w.2 (may_from axioms q ex (role_at rs i) (tests_at atoms i) (next.plan.asked i l) links next.plan.masks (column below i) s w.0 w.3), w.3),
       )
 
-  pub near : (tops : List ℕ) (row : List Bool) → AreTops links s tops
-      → TellsRow (length tests) (λ i. SomeSplit (slice_index_or tests i []) (column below i) tops s) row
+  pub near : (tops : List ℕ) (row : List ℕ) → AreTops links s tops
+      → TellsRow (length rs) (λ i. SomeSplit (tests_at atoms i) (column below i) tops s) row
       → list_any (crosses s) links ≡ true → TellsRow (length rs) (FoldsAt axioms q rs s) row
   near tops row are told e =
       let n = neighbour q ex links next.plan.masks s next.fits e in
       TellsRow-same _ _ (length rs) row
       (λ i l. let f = Folds-SplitsAtSome axioms q set (role_at rs i) n.0 n.1 in (f.1, f.0)) (bases_told tops row are told)
 
-  pub alone : IsConnected q set → (tops : List ℕ) (row found : List Bool) → AreTops links s tops
-      → TellsRow (length tests) (λ i. SomeSplit (slice_index_or tests i []) (column below i) tops s) row
+  pub alone : IsConnected q set → (tops : List ℕ) (row found : List ℕ) → AreTops links s tops
+      → TellsRow (length rs) (λ i. SomeSplit (tests_at atoms i) (column below i) tops s) row
       → list_any (crosses s) links ≡ false → TellsRow (length rs) (ChainLeadsTo axioms rs row) found → TellsRow (length rs) (FoldsAt axioms q rs s) found
   alone connected tops row found are told e led = TellsRow-same _ _ (length rs) found same led
     where
@@ -135,7 +134,7 @@ module _ (h : Hierarchy) (axioms : List Axiom) (q : Query) (links : List (ℕ ×
 
   -- ---- what folds below a role
 
-  pub below_connected : (row found : List Bool) → IsFoldRow axioms q rs s row → TellsRow (length rs) (LeadsTo axioms rs row) found
+  pub below_connected : (row found : List ℕ) → IsFoldRow axioms q rs s row → TellsRow (length rs) (LeadsTo axioms rs row) found
       → TellsRow (length rs) (FoldsBelowAt axioms q rs s) found
   below_connected row found fold led = TellsRow-same _ _ (length rs) found same led
     where
@@ -152,7 +151,7 @@ module _ (h : Hierarchy) (axioms : List Axiom) (q : Query) (links : List (ℕ ×
             ),
       )
 
-  pub below_none : s ≡ 0 → (row : List Bool) → TellsRow (length rs) (λ _. true ≡ true) row → TellsRow (length rs) (FoldsBelowAt axioms q rs s) row
+  pub below_none : s ≡ 0 → (row : List ℕ) → TellsRow (length rs) (λ _. true ≡ true) row → TellsRow (length rs) (FoldsBelowAt axioms q rs s) row
   below_none e row told = TellsRow-same _ _ (length rs) row
       (λ i l. (λ _. FoldsBelow-none axioms q set (role_at rs i) (λ v. ap (λ n. set_of ex n v) e ∙ no_member ex v), λ _. refl)) told
 
@@ -191,7 +190,7 @@ module _ (h : Hierarchy) (axioms : List Axiom) (q : Query) (links : List (ℕ ×
             subst (λ z. z v ≡ true) rest (subst (λ n. set_of ex n v ≡ true) (sym e) (closed.within v connected.is_member)) in
             absurd (not_both connected.is_member (not_true (set_of ex part v) (and_right (set v) _ gone)))
 
-    pub below_parts : (row : List Bool)
+    pub below_parts : (row : List ℕ)
         → TellsRow (length rs) (λ i. (column below i part ≡ true) × (column below i (bit_and s (bit_not w8 part)) ≡ true)) row
         → TellsRow (length rs) (FoldsBelowAt axioms q rs s) row
     below_parts row told = TellsRow-same _ _ (length rs) row same told
@@ -208,7 +207,7 @@ module _ (h : Hierarchy) (axioms : List Axiom) (q : Query) (links : List (ℕ ×
 
   -- ---- the row of a table
 
-  pub row_of_fold : (bits : List Bool) (row : List Role) → IsFoldRow axioms q rs s bits → ArePicked role_cmp rs (HasBit bits) row → IsRowOf axioms rs q s row
+  pub row_of_fold : (bits : List ℕ) (row : List Role) → IsFoldRow axioms q rs s bits → ArePicked role_cmp rs (HasBit bits) row → IsRowOf axioms rs q s row
   row_of_fold bits row fold picked = record {
     ascending = picked.ascending;
     exact = λ t. (
@@ -243,21 +242,21 @@ empty_not_connected q ex c = not_both c.is_member (no_member ex c.member)
 -- ---- a table
 
 -- what is known of all sets up to a number is known for the next one
-pub next_of : (h : Hierarchy) (links : List (ℕ × ℕ)) (tests : List (List AtomTest)) (below slice : List (List Bool)) (s last : ℕ)
-    → IsEach [] s (TellsBelowFor h links tests last) below → slice ≡ below → s ≤ last → (axioms : List Axiom) (q : Query)
-    → IsPlanFor h axioms q links tests → last < 2 ^ length (existential_variables q) → IsNext h axioms q links tests slice s
-next_of h links tests below slice s last told same l axioms q plan fits =
-    subst (λ b. IsNext h axioms q links tests b s) (sym same) (record {
+pub next_of : (h : Hierarchy) (links : List (ℕ × ℕ)) (atoms : List AtomRows) (below slice : List (List ℕ)) (s last : ℕ)
+    → IsEach [] s (TellsBelowFor h links atoms last) below → slice ≡ below → s ≤ last → (axioms : List Axiom) (q : Query)
+    → IsPlanFor h axioms q links atoms → last < 2 ^ length (existential_variables q) → IsNext h axioms q links atoms slice s
+next_of h links atoms below slice s last told same l axioms q plan fits =
+    subst (λ b. IsNext h axioms q links atoms b s) (sym same) (record {
       plan = plan;
       fits = omega (arith, l, fits);
       told = λ i k m j. (told.each m j axioms q plan fits).each i k;
     })
 
 -- past the last row all are empty
-pub table_told : (h : Hierarchy) (axioms : List Axiom) (q : Query) (links : List (ℕ × ℕ)) (tests : List (List AtomTest)) (last : ℕ) (rows : List (List Role))
-    → IsPlanFor h axioms q links tests → last + 1 ≡ 2 ^ length (existential_variables q) → IsEach [] (last + 1) (IsRowFor h links tests last) rows
+pub table_told : (h : Hierarchy) (axioms : List Axiom) (q : Query) (links : List (ℕ × ℕ)) (atoms : List AtomRows) (last : ℕ) (rows : List (List Role))
+    → IsPlanFor h axioms q links atoms → last + 1 ≡ 2 ^ length (existential_variables q) → IsEach [] (last + 1) (IsRowFor h links atoms last) rows
     → IsTableOf axioms (roles h.predicates) q rows
-table_told h axioms q links tests last rows plan all told number l = by (cases number (last + 1))
+table_told h axioms q links atoms last rows plan all told number l = by (cases number (last + 1))
   where
     cases : (a b : ℕ) → (a < b) ⊎ (b ≤ a)
     cases a b = grind arith

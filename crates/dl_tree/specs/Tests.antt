@@ -1,10 +1,13 @@
 -- What the atoms of a query ask where some variables of a set stand at one role, as tests of bits. For private
 -- functions.
-use Rattle.std.specs.Prelude.{ℕ, ◌≡◌, ◌≤◌, Bool, true, false, not, ◌&&◌, ◌||◌, List, [], nat_eq, bit_and, slice_index_or}
+use Rattle.std.specs.Prelude.{ℕ, ◌≡◌, ◌≤◌, Bool, true, not, ◌&&◌, ◌||◌, List, [], map, nat_eq, bit_and, slice_index_or}
 use Rattle.std.specs.List.{Contains, list_all}
 use Rattle.std.specs.Int.{bit_not, w8}
+use Rattle.dl_reach.specs.Rows.{row_has}
 use Rattle.dl_tree.specs.declared.atoms.AtomTest.{AtomTest}
 use Rattle.dl_tree.specs.declared.atoms.AtomTest.TheVariants.{Is, Link}
+use Rattle.dl_tree.specs.declared.atoms.AtomRows.{AtomRows}
+use Rattle.dl_tree.specs.declared.atoms.AtomRows.TheVariants as rows
 
 -- a bit is in a mask
 abbrev pub has : ℕ → ℕ → Bool
@@ -26,8 +29,16 @@ splits_at tests below s m =
     nat_eq (bit_and m s) m && below (bit_and s (bit_not w8 m)) && list_all (test_stands s m) tests
 
 -- what rows of a table say at one place
-abbrev pub column : List (List Bool) → ℕ → ℕ → Bool
-column rows i m = slice_index_or (slice_index_or rows m []) i false
+abbrev pub column : List (List ℕ) → ℕ → ℕ → Bool
+column rows i m = row_has (slice_index_or rows m []) i
+
+-- what the rows of an atom ask at one place
+abbrev pub test_at : ℕ → AtomRows → AtomTest
+test_at i (rows.Is bit holds) = Is bit (row_has holds i)
+test_at i (rows.Link from to out into) = Link from to (row_has out i) (row_has into i)
+
+abbrev pub tests_at : List AtomRows → ℕ → List AtomTest
+tests_at atoms i = map (test_at i) atoms
 
 -- the members of m may stand at a role as far as the role atoms ask, whatever the role
 abbrev pub may_split : List (ℕ × ℕ) → ℕ → ℕ → Bool

@@ -13,9 +13,11 @@ use Rattle.dl_tree.specs.Below.{FoldsBelow}
 use Rattle.dl_tree.specs.Masks.{place, set_of, bit_of}
 use Rattle.dl_tree.specs.Each.{IsEach}
 use Rattle.dl_tree.specs.Rows.{role_at}
-use Rattle.dl_tree.specs.Tests.{column}
+use Rattle.dl_tree.specs.Tests.{column, test_at, tests_at}
 use Rattle.dl_tree.specs.declared.atoms.AtomTest.{AtomTest}
 use Rattle.dl_tree.specs.declared.atoms.AtomTest.TheVariants as test
+use Rattle.dl_tree.specs.declared.atoms.AtomRows.{AtomRows}
+use Rattle.dl_tree.specs.declared.atoms.AtomRows.TheVariants as rows
 
 abbrev pub IsTestOf : List Axiom → List ℕ → Role → Atom → AtomTest → Type 0
 IsTestOf axioms ex t (atom.Is c u) (test.Is bit holds) =
@@ -45,12 +47,25 @@ TellsBelow axioms q ex t below s = (m : ℕ) → m < s → (below m ≡ true) �
 abbrev pub IsNumbering : List ℕ → Type 0
 IsNumbering ex = (i : ℕ) → i < length ex → place ex (slice_index_or ex i 0) ≡ i
 
+-- what an atom asks of each of the roles
+abbrev pub IsRowsOf : List Axiom → List ℕ → List Role → Atom → AtomRows → Type 0
+IsRowsOf axioms ex roles a rows =
+    (i : ℕ) → i < length roles → IsTestOf axioms ex (role_at roles i) a (test_at i rows)
+
+abbrev pub no_rows : AtomRows
+no_rows = rows.Is 0 []
+
+-- what each of the atoms asks, in order
+abbrev pub AreRowsOf : List Axiom → List Atom → List ℕ → List Role → List AtomRows → Type 0
+AreRowsOf axioms atoms ex roles found =
+    IsEach no_rows (length atoms) (λ k x. IsRowsOf axioms ex roles (slice_index_or atoms k no_atom) x) found
+
 -- the tests of each of the roles
-abbrev pub AreTestsOfEach : List Axiom → List Atom → List ℕ → List Role → List (List AtomTest) → Type 0
-AreTestsOfEach axioms atoms ex roles tests =
-    IsEach [] (length roles) (λ i own. AreTestsOf axioms atoms ex (role_at roles i) own) tests
+abbrev pub AreTestsOfEach : List Axiom → List Atom → List ℕ → List Role → List AtomRows → Type 0
+AreTestsOfEach axioms atoms ex roles found =
+    (i : ℕ) → i < length roles → AreTestsOf axioms atoms ex (role_at roles i) (tests_at found i)
 
 -- for each of the roles, which sets of lesser number fold below it
-abbrev pub TellsBelowEach : List Axiom → Query → List ℕ → List Role → List (List Bool) → ℕ → Type 0
+abbrev pub TellsBelowEach : List Axiom → Query → List ℕ → List Role → List (List ℕ) → ℕ → Type 0
 TellsBelowEach axioms q ex roles below s =
     (i : ℕ) → i < length roles → TellsBelow axioms q ex (role_at roles i) (column below i) s

@@ -1,76 +1,63 @@
-// The tests of the atoms of a query for each role of a hierarchy.
+// What the atoms of a query ask of the roles of a hierarchy.
 ghost use Rattle.std.specs.Prelude.{◌≡◌, ℕ, ◌≤◌, length, List as Items, IfOk};
 ghost use Rattle.dl_terms.specs.Roles.{named};
 ghost use Rattle.dl_terms.specs.declared.axiom.Axiom.{Axiom};
+ghost use Rattle.dl_hier.specs.Predicates.{roles};
 ghost use Rattle.dl_hier.specs.Hierarchy.{IsHierarchyOf};
-ghost use Rattle.dl_tree.specs.TestsOf.{IsTestOf, AreTestsOf, AreTestsOfEach};
+ghost use Rattle.dl_tree.specs.TestsOf.{IsRowsOf, AreRowsOf};
 
-use crate::atoms::AtomTest;
+use crate::atoms::AtomRows;
+use crate::bits::list_of;
 use crate::rows::inverse_of;
 use crate::variables::bit_of;
 use dl_hier::Hier;
 use dl_terms::{Atom, Base, Basic, List, NoMemory, Role};
 use std::alloc::Global;
 
-/// The tests of each role: one for each atom.
-pub(crate) fn tests_of_roles(
+/// What each atom asks of the roles.
+pub(crate) fn rows_of_atoms(
     alloc: Global,
     hier: &Hier,
-    roles: &[Role],
+    places: usize,
     variables: &[u8],
     atoms: &[Atom],
-) -> Result<List<List<AtomTest>>, NoMemory>
-    requires { length variables.now ≤ 8 }
-    ensures { IfOk result (λ tests. (axioms : Items Axiom) → IsHierarchyOf hier.now axioms →
-        AreTestsOfEach axioms atoms.now variables.now roles.now tests) }
+) -> Result<List<AtomRows>, NoMemory>
+    requires few { length variables.now ≤ 8 }
+    requires places { places ≡ length (roles hier.now.predicates) }
+    ensures { IfOk result (λ rows. (axioms : Items Axiom) → IsHierarchyOf hier.now axioms →
+        AreRowsOf axioms atoms.now variables.now (roles hier.now.predicates) rows) }
 {
-    let mut tests = List::new(alloc);
-    for i in 0..roles.len() {
-        tests.push(tests_of(alloc, hier, variables, atoms, roles[i])?)?;
-    }
-    Ok(tests)
-}
-
-/// The tests of a role.
-fn tests_of(
-    alloc: Global,
-    hier: &Hier,
-    variables: &[u8],
-    atoms: &[Atom],
-    role: Role,
-) -> Result<List<AtomTest>, NoMemory>
-    requires { length variables.now ≤ 8 }
-    ensures { IfOk result (λ tests. (axioms : Items Axiom) → IsHierarchyOf hier.now axioms →
-        AreTestsOf axioms atoms.now variables.now role tests) }
-{
-    let mut tests = List::new(alloc);
+    let mut rows = List::new(alloc);
     for i in 0..atoms.len() {
-        tests.push(test_of(hier, variables, role, atoms[i]))?;
+        rows.push(rows_of_atom(alloc, hier, places, variables, atoms[i])?)?;
     }
-    Ok(tests)
+    Ok(rows)
 }
 
-/// What an atom asks of a role.
-fn test_of(hier: &Hier, variables: &[u8], role: Role, atom: Atom) -> AtomTest
-    requires { length variables.now ≤ 8 }
-    ensures { (axioms : Items Axiom) → IsHierarchyOf hier.now axioms →
-        IsTestOf axioms variables.now role atom result }
+/// What an atom asks of the roles.
+fn rows_of_atom(
+    alloc: Global,
+    hier: &Hier,
+    places: usize,
+    variables: &[u8],
+    atom: Atom,
+) -> Result<AtomRows, NoMemory>
+    requires few { length variables.now ≤ 8 }
+    requires places { places ≡ length (roles hier.now.predicates) }
+    ensures { IfOk result (λ rows. (axioms : Items Axiom) → IsHierarchyOf hier.now axioms →
+        IsRowsOf axioms variables.now (roles hier.now.predicates) atom rows) }
 {
     match atom {
-        Atom::Is { class, at } => AtomTest::Is {
+        Atom::Is { class, at } => Ok(AtomRows::Is {
             bit: bit_of(variables, at),
-            holds: hier.basic_below(Basic::SomeOf(inverse_of(role)), Basic::Class(class)),
-        },
-        Atom::Link {
-            role: property,
-            from,
-            to,
-        } => AtomTest::Link {
+            holds: list_of(alloc, hier.bits_leading(Basic::Class(class)), places)?,
+        }),
+        Atom::Link { role, from, to } => Ok(AtomRows::Link {
             from: bit_of(variables, from),
             to: bit_of(variables, to),
-            out: hier.role_below(role, inverse_of(named(property))),
-            into: hier.role_below(role, named(property)),
-        },
+            out: list_of(alloc, hier.bits_below(inverse_of(named(role))), places)?,
+            into: list_of(alloc, hier.bits_below(named(role)), places)?,
+        }),
     }
 }
 

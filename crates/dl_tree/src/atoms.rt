@@ -1,10 +1,13 @@
 // What the atoms of a query ask where some variables of a set stand at one role.
-ghost use Rattle.std.specs.Prelude.{◌≡◌, ℕ, true, false, slice_index_or, IfOk};
+ghost use Rattle.std.specs.Prelude.{◌≡◌, ◌&&◌, ℕ, not, true, false, [], slice_index_or, IfOk};
 ghost use Rattle.std.specs.List.{Contains, list_all};
+ghost use Rattle.dl_reach.specs.Rows.{row_has};
 ghost use Rattle.dl_tree.specs.declared.atoms.AtomTest.TheVariants.{Link};
-ghost use Rattle.dl_tree.specs.Tests.{test_stands, splits_at, column, may_split, AreTops, SomeSplit};
+ghost use Rattle.dl_tree.specs.Rows.{TellsRow};
+ghost use Rattle.dl_tree.specs.Tests.{has, test_stands, test_at, tests_at, splits_at, column, may_split, AreTops, SomeSplit};
 
-use dl_terms::List;
+use crate::bits::{empty, join, keep};
+use dl_terms::{List, NoMemory};
 use std::alloc::{AllocError, Global};
 
 /// What one atom asks of a role. `bit` is the bit of its variable, and `holds` says whether its class holds below
@@ -20,6 +23,21 @@ pub(crate) enum AtomTest {
         to: u8,
         out: bool,
         into: bool,
+    },
+}
+
+/// What one atom asks of the roles of a hierarchy: as `AtomTest`, with a row of bits over the roles for each test.
+#[derive(Drop)]
+pub(crate) enum AtomRows {
+    Is {
+        bit: u8,
+        holds: List<u64>,
+    },
+    Link {
+        from: u8,
+        to: u8,
+        out: List<u64>,
+        into: List<u64>,
     },
 }
 
@@ -46,76 +64,108 @@ fn may_split(links: &[(u8, u8)], s: u8, m: u8) -> bool
 fn links_stand(links: &[(u8, u8)], s: u8, m: u8) -> bool
     ensures { result ≡ list_all (λ e. test_stands s m (Link e.0 e.1 true true)) links.now }
 {
-    links.iter().all(|link| link_stands(*link, s, m))
+    links
+        .iter()
+        .all(|link| link_stands(*link, true, true, s, m))
 }
 
-fn link_stands(link: (u8, u8), s: u8, m: u8) -> bool
-    ensures { result ≡ test_stands s m (Link link.0 link.1 true true) }
+fn link_stands(link: (u8, u8), out: bool, into: bool, s: u8, m: u8) -> bool
+    ensures { result ≡ test_stands s m (Link link.0 link.1 out into) }
 {
     stands_at(
         &AtomTest::Link {
             from: link.0,
             to: link.1,
-            out: true,
-            into: true,
+            out,
+            into,
         },
         s,
         m,
     )
 }
 
-/// Whether some of these sets of members may stand at the role of the index, while the rest of `s` folds below it,
-/// which the rows of `below` say of each set.
-pub(crate) fn splits(
-    tests: &[AtomTest],
-    below: &[List<bool>],
-    index: usize,
+/// For each role whether some of these sets of members may stand at it, while the rest of `s` folds below it, which
+/// the rows of `below` say of each set.
+pub(crate) fn bases(
+    alloc: Global,
+    atoms: &[AtomRows],
+    below: &[List<u64>],
+    places: usize,
     s: u8,
     tops: &[u8],
-) -> bool
-    ensures yes { result ≡ true → SomeSplit tests.now (column below.now index) tops.now s }
-    ensures no { result ≡ false → (m : ℕ) → Contains tops.now m →
-        splits_at tests.now (column below.now index) s m ≡ false }
+) -> Result<List<u64>, NoMemory>
+    ensures { IfOk result (TellsRow places
+        (λ i. SomeSplit (tests_at atoms.now i) (column below.now i) tops.now s)) }
 {
+    let mut found = empty(alloc, places)?;
     for m in tops {
-        if splits_at(tests, below, index, s, *m) {
-            return true;
-        }
+        let row = standing(alloc, atoms, below, s, *m)?;
+        join(&mut found, &row);
     }
-    false
+    Ok(List::of(found))
 }
 
-/// Whether the members of `m` may stand at the role, while the rest of `s` folds below it.
-fn splits_at(tests: &[AtomTest], below: &[List<bool>], index: usize, s: u8, m: u8) -> bool
-    ensures { result ≡ splits_at tests.now (column below.now index) s m }
+/// For each role whether the members of `m` may stand at it, while the rest of `s` folds below it.
+fn standing(
+    alloc: Global,
+    atoms: &[AtomRows],
+    below: &[List<u64>],
+    s: u8,
+    m: u8,
+) -> Result<Vec<u64>, AllocError>
+    ensures { IfOk result (λ row. (i : ℕ) →
+        row_has row.items i ≡ splits_at (tests_at atoms.now i) (column below.now i) s m) }
 {
-    m & s == m && is_set(below, (s & !m) as usize, index) && stand(tests, s, m)
+    if m & s != m {
+        return Ok(Vec::new(alloc));
+    }
+    let mut row = Vec::from_slice(alloc, row_at(below, (s & !m) as usize))?;
+    for atom in atoms {
+        ask(&mut row, atom, s, m);
+    }
+    Ok(row)
 }
 
-/// Whether the row of a set has the bit of an index.
-pub(crate) fn is_set(rows: &[List<bool>], set: usize, index: usize) -> bool
-    ensures { result ≡ column rows.now index set }
+/// The row of a set, or an empty one.
+pub(crate) fn row_at(rows: &[List<u64>], set: usize) -> &[u64]
+    ensures { result.now ≡ slice_index_or rows.now set [] }
 {
     match rows.get(set) {
-        Some(row) => has_bit(row.as_slice(), index),
-        None => false,
+        Some(row) => row.as_slice(),
+        None => &[],
     }
 }
 
-/// Whether a row has the bit of an index.
-pub(crate) fn has_bit(row: &[bool], index: usize) -> bool
-    ensures { result ≡ slice_index_or row.now index false }
+/// Leaves the roles at which the atom lets the members of `m` stand.
+fn ask(row: &mut Vec<u64>, atom: &AtomRows, s: u8, m: u8)
+    ensures { (i : ℕ) → row_has row.new.items i
+        ≡ (row_has row.old.items i && test_stands s m (test_at i atom.now)) }
 {
-    match row.get(index) {
-        Some(bit) => *bit,
-        None => false,
+    match atom {
+        AtomRows::Is { bit, holds } => keep(row, is_apart(*bit, m), holds.as_slice()),
+        AtomRows::Link {
+            from,
+            to,
+            out,
+            into,
+        } => ask_link(row, (*from, *to), out.as_slice(), into.as_slice(), s, m),
     }
 }
 
-fn stand(tests: &[AtomTest], s: u8, m: u8) -> bool
-    ensures { result ≡ list_all (test_stands s m) tests.now }
+fn is_apart(bit: u8, m: u8) -> bool
+    ensures { result ≡ not (has bit m) }
 {
-    tests.iter().all(|test| stands_at(test, s, m))
+    bit & m == 0
+}
+
+/// The same of a role atom: all roles pass where all do that aren't below its property, or its inverse.
+fn ask_link(row: &mut Vec<u64>, link: (u8, u8), out: &[u64], into: &[u64], s: u8, m: u8)
+    ensures { (i : ℕ) → row_has row.new.items i ≡ (row_has row.old.items i
+        && test_stands s m (Link link.0 link.1 (row_has out.now i) (row_has into.now i))) }
+{
+    keep(row, link_stands(link, true, true, s, m), &[]);
+    keep(row, link_stands(link, false, true, s, m), out);
+    keep(row, link_stands(link, true, false, s, m), into);
 }
 
 /// Whether the members of `m` may stand at the role and those of `s` that are not in `m` below it.

@@ -3,6 +3,7 @@
 
 mod asked;
 mod atoms;
+mod bits;
 mod folds;
 pub mod laws;
 mod masks;

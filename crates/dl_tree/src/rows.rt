@@ -1,5 +1,5 @@
-// Rows of bits over the roles of a hierarchy.
-ghost use Rattle.std.specs.Prelude.{◌≡◌, ℕ, ◌<◌, ◌⊎◌, ◌↔◌, true, false, [], length, slice_index_or, List as Items, IfOk, IsTrue, MatchOption};
+// Which roles are followed by a role of a row, in one step and by chains, and the roles of a row.
+ghost use Rattle.std.specs.Prelude.{◌≡◌, ℕ, ◌*◌, ◌<◌, ◌≤◌, ◌⊎◌, false, length, slice_index_or, List as Items, IfOk, MatchOption};
 ghost use Rattle.std.specs.List.Sorted.{IsStrictlySortedBy};
 ghost use Rattle.dl_terms.specs.Order.{role_cmp};
 ghost use Rattle.dl_terms.specs.Roles.{inverse_of};
@@ -8,113 +8,42 @@ ghost use Rattle.dl_hier.specs.Predicates.{roles};
 ghost use Rattle.dl_hier.specs.Hierarchy.{IsHierarchyOf};
 ghost use Rattle.dl_hier.specs.Picking.{ArePicked};
 ghost use Rattle.dl_tree.specs.Below.{MayFollow};
-ghost use Rattle.dl_tree.specs.Tests.{column, SomeSplit};
-ghost use Rattle.dl_tree.specs.Rows.{role_at, HasBit, TellsRow, IsBelowSomeOf, LeadsTo, ChainLeadsTo};
+ghost use Rattle.dl_tree.specs.Rows.{role_at, HasBit, TellsRow, IsMarked, LeadsTo, ChainLeadsTo};
 
-use crate::atoms::{AtomTest, has_bit, is_set, splits};
+use crate::bits::{copied, empty, join, next_bit};
 use dl_hier::Hier;
 use dl_terms::{Basic, List, NoMemory, Role};
 use std::alloc::{AllocError, Global};
 
-/// A row with the same bit throughout.
-pub(crate) fn filled(alloc: Global, places: usize, bit: bool) -> Result<List<bool>, NoMemory>
-    ensures { IfOk result (TellsRow places (λ _. bit ≡ true)) }
-{
-    let mut row = List::new(alloc);
-    for _ in 0..places {
-        row.push(bit)?;
-    }
-    Ok(row)
-}
-
-/// The bits that the rows of two sets both have.
-pub(crate) fn both(
-    alloc: Global,
-    rows: &[List<bool>],
-    places: usize,
-    one: usize,
-    other: usize,
-) -> Result<List<bool>, NoMemory>
-    ensures { IfOk result (TellsRow places
-        (λ i. (column rows.now i one ≡ true) × (column rows.now i other ≡ true))) }
-{
-    let mut row = List::new(alloc);
-    for i in 0..places {
-        row.push(are_set(rows, one, other, i))?;
-    }
-    Ok(row)
-}
-
-fn are_set(rows: &[List<bool>], one: usize, other: usize, index: usize) -> bool
-    ensures { (result ≡ true) ↔ ((column rows.now index one ≡ true) × (column rows.now index other ≡ true)) }
-{
-    is_set(rows, one, index) && is_set(rows, other, index)
-}
-
-/// For each role whether some of these sets of members may stand at it, while the rest of `s` folds below it.
-pub(crate) fn bases(
-    alloc: Global,
-    tests: &[List<AtomTest>],
-    below: &[List<bool>],
-    s: u8,
-    tops: &[u8],
-) -> Result<List<bool>, NoMemory>
-    ensures { IfOk result (TellsRow (length tests.now)
-        (λ i. SomeSplit (slice_index_or tests.now i []) (column below.now i) tops.now s)) }
-{
-    let mut row = List::new(alloc);
-    for (i, own) in tests.iter().enumerate() {
-        row.push(splits(own.as_slice(), below, i, s, tops))?;
-    }
-    Ok(row)
-}
-
 /// For each role whether a role of the row may follow it.
-pub(crate) fn followed(alloc: Global, hier: &Hier, row: &[bool]) -> Result<List<bool>, NoMemory>
+pub(crate) fn followed(alloc: Global, hier: &Hier, row: &[u64]) -> Result<List<u64>, NoMemory>
     ensures { IfOk result (λ found. (axioms : Items Axiom) → IsHierarchyOf hier.now axioms →
         TellsRow (length (roles hier.now.predicates))
         (LeadsTo axioms (roles hier.now.predicates) row.now) found) }
 {
     let roles = hier.roles();
-    let mut found = filled(alloc, roles.len(), false)?;
-    let mut tops = List::new(alloc);
-    for i in 0..roles.len() {
-        if needs_pass(hier, row, i, roles[i], tops.as_slice()) {
-            found = with_leading(alloc, hier, found.as_slice(), roles[i])?;
-            tops.push(roles[i])?;
-        }
+    let mut found = empty(alloc, roles.len())?;
+    let mut start = 0;
+    while let Some(i) = next_bit(row, start, roles.len()) {
+        add_leading(&mut found, hier, roles[i]);
+        start = i + 1;
     }
-    Ok(found)
+    Ok(List::of(found))
 }
 
-/// Whether a role is one of the row, and new.
-fn needs_pass(hier: &Hier, row: &[bool], index: usize, role: Role, tops: &[Role]) -> bool
-    ensures yes { result ≡ true → HasBit row.now index }
-    ensures no { result ≡ false → HasBit row.now index → (axioms : Items Axiom) →
-        IsHierarchyOf hier.now axioms → IsBelowSomeOf axioms tops.now role }
+/// Puts the roles that a role may follow to a row.
+fn add_leading(row: &mut Vec<u64>, hier: &Hier, to: Role)
+    requires { length (roles hier.now.predicates) ≤ 64 * length row.old.items }
+    ensures len { length row.new.items ≡ length row.old.items }
+    ensures told { (axioms : Items Axiom) → IsHierarchyOf hier.now axioms →
+        TellsRow (length (roles hier.now.predicates)) (λ i. HasBit row.old.items i
+        ⊎ MayFollow axioms (role_at (roles hier.now.predicates) i) to) row.new.items }
 {
-    if has_bit(row, index) {
-        return is_new(hier, role, tops);
-    }
-    false
-}
-
-/// Whether "some" of a role is below "some" of none of these roles: where it is below one, whatever the role may follow
-/// leads to that one too.
-fn is_new(hier: &Hier, role: Role, tops: &[Role]) -> bool
-    ensures { result ≡ false → (axioms : Items Axiom) → IsHierarchyOf hier.now axioms →
-        IsBelowSomeOf axioms tops.now role }
-{
-    for top in tops {
-        if hier.basic_below(Basic::SomeOf(role), Basic::SomeOf(*top)) {
-            return false;
-        }
-    }
-    true
+    join(row, hier.bits_leading(Basic::SomeOf(to)));
 }
 
 /// For each role whether a chain of roles, of which each may follow the one before it, leads to a role of the row.
-pub(crate) fn led(alloc: Global, hier: &Hier, row: &[bool]) -> Result<List<bool>, NoMemory>
+pub(crate) fn led(alloc: Global, hier: &Hier, row: &[u64]) -> Result<List<u64>, NoMemory>
     ensures { IfOk result (λ found. (axioms : Items Axiom) → IsHierarchyOf hier.now axioms →
         TellsRow (length (roles hier.now.predicates))
         (ChainLeadsTo axioms (roles hier.now.predicates) row.now) found) }
@@ -122,25 +51,13 @@ pub(crate) fn led(alloc: Global, hier: &Hier, row: &[bool]) -> Result<List<bool>
     let roles = hier.roles();
     let mut found = copied(alloc, row, roles.len())?;
     let mut done = unmarked(alloc, roles.len())?;
-    let mut tops = List::new(alloc);
-    while let Some(i) = pending(found.as_slice(), &done) {
-        if is_new(hier, roles[i], tops.as_slice()) {
-            found = with_leading(alloc, hier, found.as_slice(), roles[i])?;
-            tops.push(roles[i])?;
-        }
+    let mut start = 0;
+    while let Some(i) = pending(&found, &done, start) {
+        add_leading(&mut found, hier, roles[i]);
         done[i] = true;
+        start = i + 1;
     }
-    Ok(found)
-}
-
-fn copied(alloc: Global, row: &[bool], places: usize) -> Result<List<bool>, NoMemory>
-    ensures { IfOk result (TellsRow places (HasBit row.now)) }
-{
-    let mut copy = List::new(alloc);
-    for i in 0..places {
-        copy.push(has_bit(row, i))?;
-    }
-    Ok(copy)
+    Ok(List::of(found))
 }
 
 fn unmarked(alloc: Global, places: usize) -> Result<Vec<bool>, AllocError>
@@ -150,47 +67,31 @@ fn unmarked(alloc: Global, places: usize) -> Result<Vec<bool>, AllocError>
     vec![in alloc; false; places]
 }
 
-/// The first place with a bit and no mark.
-fn pending(row: &[bool], done: &[bool]) -> Option<usize>
+/// A place with a bit and no mark: the first one from the start on, or else the first one.
+fn pending(row: &[u64], done: &[bool], start: usize) -> Option<usize>
     ensures { MatchOption result
-        ((i : ℕ) → i < length done.now → HasBit row.now i → HasBit done.now i)
+        ((i : ℕ) → i < length done.now → HasBit row.now i → IsMarked done.now i)
         (λ i. (i < length done.now) × HasBit row.now i × (slice_index_or done.now i false ≡ false)) }
 {
-    for i in 0..done.len() {
-        if has_bit(row, i) && !done[i] {
-            return Some(i);
+    match pending_from(row, done, start) {
+        Some(i) => Some(i),
+        None => pending_from(row, done, 0),
+    }
+}
+
+fn pending_from(row: &[u64], done: &[bool], start: usize) -> Option<usize>
+    ensures { MatchOption result
+        ((i : ℕ) → start ≤ i → i < length done.now → HasBit row.now i → IsMarked done.now i)
+        (λ i. (i < length done.now) × HasBit row.now i × (slice_index_or done.now i false ≡ false)) }
+{
+    let mut i = start;
+    while let Some(k) = next_bit(row, i, done.len()) {
+        if !done[k] {
+            return Some(k);
         }
+        i = k + 1;
     }
     None
-}
-
-/// The row with the bits of the roles that a role may follow.
-fn with_leading(alloc: Global, hier: &Hier, row: &[bool], to: Role) -> Result<List<bool>, NoMemory>
-    ensures { IfOk result (λ found. (axioms : Items Axiom) → IsHierarchyOf hier.now axioms →
-        TellsRow (length (roles hier.now.predicates)) (λ i. HasBit row.now i
-        ⊎ MayFollow axioms (role_at (roles hier.now.predicates) i) to) found) }
-{
-    let roles = hier.roles();
-    let mut found = List::new(alloc);
-    for i in 0..roles.len() {
-        found.push(has_bit_or_leads(hier, row, i, roles[i], to))?;
-    }
-    Ok(found)
-}
-
-fn has_bit_or_leads(hier: &Hier, row: &[bool], index: usize, role: Role, to: Role) -> bool
-    ensures { (axioms : Items Axiom) → IsHierarchyOf hier.now axioms →
-        (result ≡ true) ↔ (HasBit row.now index ⊎ MayFollow axioms role to) }
-{
-    has_bit(row, index) || may_follow(hier, role, to)
-}
-
-/// Whether a role may follow another in the words of unnamed elements.
-fn may_follow(hier: &Hier, role: Role, next: Role) -> bool
-    ensures { (axioms : Items Axiom) → IsHierarchyOf hier.now axioms →
-        (IsTrue result ↔ MayFollow axioms role next) }
-{
-    hier.basic_below(Basic::SomeOf(inverse_of(role)), Basic::SomeOf(next))
 }
 
 /// The inverse of a role.
@@ -204,15 +105,15 @@ pub(crate) fn inverse_of(role: Role) -> Role
 }
 
 /// The roles of which a row has the bit.
-pub(crate) fn picked(alloc: Global, roles: &[Role], row: &[bool]) -> Result<List<Role>, NoMemory>
-    requires ascending { IsStrictlySortedBy role_cmp roles.now }
-    ensures { IfOk result (ArePicked role_cmp roles.now (HasBit row.now)) }
+pub(crate) fn picked(alloc: Global, listed: &[Role], row: &[u64]) -> Result<List<Role>, NoMemory>
+    requires ascending { IsStrictlySortedBy role_cmp listed.now }
+    ensures { IfOk result (ArePicked role_cmp listed.now (HasBit row.now)) }
 {
     let mut found = List::new(alloc);
-    for (i, role) in roles.iter().enumerate() {
-        if has_bit(row, i) {
-            found.push(*role)?;
-        }
+    let mut start = 0;
+    while let Some(i) = next_bit(row, start, listed.len()) {
+        found.push(listed[i])?;
+        start = i + 1;
     }
     Ok(found)
 }

@@ -9,8 +9,8 @@ ghost use Rattle.dl_tree.specs.Rows.{TellsRow};
 ghost use Rattle.dl_tree.specs.Table.{IsRowOf, IsTableOf};
 ghost use Rattle.dl_tree.specs.Plans.{IsNext, IsRowFor, FoldsBelowAt};
 
-use crate::asked::tests_of_roles;
-use crate::atoms::AtomTest;
+use crate::asked::rows_of_atoms;
+use crate::atoms::AtomRows;
 use crate::folds::{below_row, fold_row, roles_of};
 use crate::variables::{existential, links};
 use dl_hier::Hier;
@@ -78,14 +78,14 @@ fn rows_of(
     if variables.is_empty() {
         return Ok(List::new(alloc));
     }
-    let atoms = query.atoms.as_slice();
-    let links = links(alloc, variables, atoms)?;
-    let tests = tests_of_roles(alloc, hier, hier.roles(), variables, atoms)?;
+    let asked = query.atoms.as_slice();
+    let links = links(alloc, variables, asked)?;
+    let atoms = rows_of_atoms(alloc, hier, hier.roles().len(), variables, asked)?;
     rows_to(
         alloc,
         hier,
         &links,
-        tests.as_slice(),
+        atoms.as_slice(),
         last_of(variables.len()),
     )
 }
@@ -120,19 +120,19 @@ fn rows_to(
     alloc: Global,
     hier: &Hier,
     links: &[(u8, u8)],
-    tests: &[List<AtomTest>],
+    atoms: &[AtomRows],
     last: u8,
 ) -> Result<List<List<Role>>, NoMemory>
-    ensures { IfOk result (IsEach [] (last + 1) (IsRowFor hier.now links.now tests.now last)) }
+    ensures { IfOk result (IsEach [] (last + 1) (IsRowFor hier.now links.now atoms.now last)) }
 {
     let mut rows = List::new(alloc);
     let mut below = List::new(alloc);
     for s in 0..last {
-        let (row, folds_below) = next_rows(alloc, hier, links, tests, below.as_slice(), s)?;
+        let (row, folds_below) = next_rows(alloc, hier, links, atoms, below.as_slice(), s)?;
         rows.push(row)?;
         below.push(folds_below)?;
     }
-    rows.push(last_row(alloc, hier, links, tests, below.as_slice(), last)?)?;
+    rows.push(last_row(alloc, hier, links, atoms, below.as_slice(), last)?)?;
     Ok(rows)
 }
 
@@ -141,17 +141,17 @@ fn next_rows(
     alloc: Global,
     hier: &Hier,
     links: &[(u8, u8)],
-    tests: &[List<AtomTest>],
-    below: &[List<bool>],
+    atoms: &[AtomRows],
+    below: &[List<u64>],
     s: u8,
-) -> Result<(List<Role>, List<bool>), NoMemory>
+) -> Result<(List<Role>, List<u64>), NoMemory>
     ensures { IfOk result (λ p. (axioms : Items Axiom) (q : Asked) →
-        IsNext hier.now axioms q links.now tests.now below.now s →
+        IsNext hier.now axioms q links.now atoms.now below.now s →
         IsRowOf axioms (roles hier.now.predicates) q s p.0
         × TellsRow (length (roles hier.now.predicates))
         (FoldsBelowAt axioms q (roles hier.now.predicates) s) p.1) }
 {
-    let row = fold_row(alloc, hier, links, tests, below, s)?;
+    let row = fold_row(alloc, hier, links, atoms, below, s)?;
     let found = roles_of(alloc, hier, &row)?;
     Ok((found, below_row(alloc, hier, links, below, s, &row)?))
 }
@@ -161,14 +161,14 @@ fn last_row(
     alloc: Global,
     hier: &Hier,
     links: &[(u8, u8)],
-    tests: &[List<AtomTest>],
-    below: &[List<bool>],
+    atoms: &[AtomRows],
+    below: &[List<u64>],
     s: u8,
 ) -> Result<List<Role>, NoMemory>
     ensures { IfOk result (λ found. (axioms : Items Axiom) (q : Asked) →
-        IsNext hier.now axioms q links.now tests.now below.now s →
+        IsNext hier.now axioms q links.now atoms.now below.now s →
         IsRowOf axioms (roles hier.now.predicates) q s found) }
 {
-    let row = fold_row(alloc, hier, links, tests, below, s)?;
+    let row = fold_row(alloc, hier, links, atoms, below, s)?;
     roles_of(alloc, hier, &row)
 }

@@ -14,10 +14,10 @@ use Rattle.dl_tree.proofs.folds.below_parts.Goals as goal
 
 pub returns-then-s-eq0 : goal.returns-then-s-eq0
 returns-then-s-eq0 c =
-    IfOk-weaker c.filled.result _ _ (λ found told h axioms q tests e next not.
+    IfOk-weaker c.full.result _ _ (λ found told h axioms q tests e next not.
     subst (λ n. TellsRow n (FoldsBelowAt axioms q (roles h.predicates) c.args.s) found) (sym e)
     (below_none h axioms q c.args.links.now tests c.args.below.now c.args.s next c.if-s-eq0.true found
-    (subst (λ n. TellsRow n (λ _. true ≡ true) found) e told))) c.filled.ensures
+    (subst (λ n. TellsRow n (λ _. true ≡ true) found) e told))) c.full.ensures
 
 pub returns : goal.returns
 returns c =

@@ -8,9 +8,10 @@ use Rattle.dl_terms.specs.declared.axiom.Axiom.{Axiom}
 use Rattle.dl_hier.specs.Predicates.{roles}
 use Rattle.dl_hier.specs.Hierarchy.{IsHierarchyOf}
 use Rattle.dl_tree.specs.Masks.{atom_links}
-use Rattle.dl_tree.specs.TestsOf.{AreTestsOfEach}
+use Rattle.dl_tree.specs.TestsOf.{AreRowsOf}
 use Rattle.dl_tree.specs.Plans.{IsPlanFor}
 use Rattle.dl_tree.proofs.LeadLemmas.{follower_known}
+use Rattle.dl_tree.proofs.AskLemmas.{tests_of}
 use Rattle.dl_tree.proofs.VariableLemmas.{link_masks}
 use Rattle.dl_tree.proofs.TableLemmas.{table_told, table_empty}
 use Rattle.dl_tree.proofs.table.rows_of.Goals as goal
@@ -27,7 +28,7 @@ returns-clause-exact c =
     let ex : List ℕ = existential_variables q in
     let listed = c.roles.ensures.roles in
     let is : c.deref.result.now ≡ flat_map (atom_links ex) q.atoms =
-    c.deref.ensures.value ∙ c.in_ok-links.ensures ∙ ap₂ (λ e a. flat_map (atom_links e) a) c.requires.variables c.as_slice-atoms.ensures in
+    c.deref.ensures.value ∙ c.in_ok-links.ensures ∙ ap₂ (λ e a. flat_map (atom_links e) a) c.requires.variables c.as_slice-asked.ensures in
     let plan : (axioms : List Axiom) → IsHierarchyOf h axioms → IsPlanFor h axioms q c.deref.result.now c.as_slice.result.now =
     λ axioms of. record {
       hierarchy = of;
@@ -36,11 +37,10 @@ returns-clause-exact c =
           subst (λ l. (r ≡ s) ⊎ (Contains l r × Contains l s)) listed (c.roles.ensures.known_by_concepts axioms of r s b));
       few = subst (λ e. length e ≤ 8) c.requires.variables c.requires.few;
       masks = link_masks q ex c.deref.result.now is;
-      asked = subst (AreTestsOfEach axioms q.atoms ex rs) (sym c.as_slice.ensures)
-          (subst (λ l. AreTestsOfEach axioms q.atoms ex l c.in_ok-tests.tests) listed
-          (subst (λ e. AreTestsOfEach axioms q.atoms e c.roles.result.now c.in_ok-tests.tests) c.requires.variables
-          (subst (λ a. AreTestsOfEach axioms a c.args.variables.now c.roles.result.now c.in_ok-tests.tests) c.as_slice-atoms.ensures
-          (c.in_ok-tests.ensures axioms of))));
+      asked = tests_of axioms q.atoms ex rs c.as_slice.result.now
+          (subst (AreRowsOf axioms q.atoms ex rs) (sym c.as_slice.ensures)
+          (subst (λ e. AreRowsOf axioms q.atoms e rs c.in_ok-atoms.atoms) c.requires.variables
+          (subst (λ a. AreRowsOf axioms a c.args.variables.now rs c.in_ok-atoms.atoms) c.as_slice-asked.ensures (c.in_ok-atoms.ensures axioms of))));
     } in
     let all : c.last_of.result + 1 ≡ 2 ^ length ex = c.last_of.ensures ∙ ap (λ e. 2 ^ length e) c.requires.variables in
     IfOk-weaker c.rows_to.result _ _ (λ rows told axioms of.

@@ -9,7 +9,7 @@ pub loop-s-preserved : goal.loop-s-preserved
 loop-s-preserved c =
     let h = c.args.hier.now in
     let links = c.args.links.now in
-    let tests = c.args.tests.now in
+    let tests = c.args.atoms.now in
     let last = c.args.last in
     let s = c.loop-s.s in
     let l = c.loop-s-test.true in
@@ -25,7 +25,7 @@ pub returns : goal.returns
 returns c =
     let h = c.args.hier.now in
     let links = c.args.links.now in
-    let tests = c.args.tests.now in
+    let tests = c.args.atoms.now in
     let last = c.args.last in
     let s = c.loop-s.s in
     let all : s ≡ last = omega (arith, c.loop-s-test.false, c.loop-s.auto.s-end) in

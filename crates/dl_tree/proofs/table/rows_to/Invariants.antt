@@ -5,6 +5,6 @@ use Rattle.dl_tree.proofs.table.rows_to.Given as goal
 
 abbrev pub invariant-loop-s : goal.invariant-loop-s
 invariant-loop-s l = record {
-  rows : IsEach [] l.s (IsRowFor l.hier l.links l.tests l.last) l.rows;
-  below : IsEach [] l.s (TellsBelowFor l.hier l.links l.tests l.last) l.below;
+  rows : IsEach [] l.s (IsRowFor l.hier l.links l.atoms l.last) l.rows;
+  below : IsEach [] l.s (TellsBelowFor l.hier l.links l.atoms l.last) l.below;
 }
