@@ -37,7 +37,6 @@ use Rattle.dl_answer.proofs.NameLemmas.{at_individual}
 use Rattle.dl_names.specs.NameList.{Text}
 use Rattle.dl_run.specs.Told.{HasNamesBelow, Tells}
 use Rattle.dl_run.specs.declared.told.Told.{Told}
-use Rattle.dl_run.specs.declared.told.Told.TheVariants.{Found, Inconsistent}
 
 -- ---- other names
 
@@ -160,11 +159,11 @@ module _ (axioms : List Axiom) (facts : List Fact) (n : ℕ) (all : All (λ f. A
 
 -- what is told of a reply has names of the facts
 pub told_named : (axioms : List Axiom) (facts : List Fact) (names : List Text) → All (λ f. All (λ name. name < length names) (fact_names f)) facts
-    → {nothing : Option ℕ} {limit : ℕ} (q : Query) → IsWellFormed q → (told : Told) → Tells names (IsReply axioms facts nothing q limit) told
+    → (nothing : Option ℕ) (limit : ℕ) (q : Query) → IsWellFormed q → (told : Told) → Tells names (IsReply axioms facts nothing q limit) told
     → HasNamesBelow (length names) told
-told_named axioms facts names all q formed (Found tuples) reply =
-    reply_named axioms facts (length names) all q formed tuples.tuples reply
-told_named axioms facts names all q formed (Inconsistent text) reply = tt
+told_named axioms facts names all nothing limit q formed told reply = λ tuples is.
+    reply_named axioms facts (length names) all q formed tuples.tuples
+    (subst (Tells names (IsReply axioms facts nothing q limit)) is reply)
 
 -- ---- names of a broken axiom
 
@@ -173,8 +172,8 @@ module _ (axioms : List Axiom) (n : ℕ) (all : All (λ a. All (λ name. name < 
   HasNames broken = IfSome broken (λ a. All (λ name. name < n) (axiom_names a))
 
   -- the axiom beside a negative is one of them
-  beside_named : {nothing : Option ℕ} (broken : Option Axiom) (r : Negative) → Contains (negatives axioms nothing) (broken, r) → HasNames broken
-  beside_named {nothing} broken r c =
+  beside_named : (nothing : Option ℕ) (broken : Option Axiom) (r : Negative) → Contains (negatives axioms nothing) (broken, r) → HasNames broken
+  beside_named nothing broken r c =
       elim (Contains-append_cases (flat_map axiom_negatives axioms) (nothing_negative nothing) (broken, r) c) [
         | inl of_axiom ↦ by_axiom (Contains-flat_map axiom_negatives axioms (broken, r) of_axiom)
         | inr of_nothing ↦ by_nothing nothing of_nothing
@@ -190,9 +189,9 @@ module _ (axioms : List Axiom) (n : ℕ) (all : All (λ a. All (λ name. name < 
       by_nothing None c = absurd (Contains-nil (broken, r) c)
       by_nothing (Some k) c = subst HasNames (ap (λ p. p.0) (Contains-one (None, Basics (Class k) (Class k)) (broken, r) c)) tt
 
-  pub broken_named : {facts : List Fact} {nothing : Option ℕ} {q : Query} {limit : ℕ} {broken : Option Axiom}
+  pub broken_named : (facts : List Fact) (nothing : Option ℕ) (q : Query) (limit : ℕ) (broken : Option Axiom)
       → IsReply axioms facts nothing q limit (inconsistent broken) → HasNames broken
-  broken_named {nothing = nothing} (is_inconsistent {broken = broken} first) =
-      beside_named {nothing} broken first.negative
+  broken_named facts nothing q limit broken (is_inconsistent first) =
+      beside_named nothing broken first.negative
       (subst (λ l. Contains l (broken, first.negative)) (sym first.is_there)
       (Contains-middle first.before first.after (broken, first.negative)))

@@ -2,7 +2,7 @@
 use Rattle.std.proofs.Common.{◌≡◌, ℕ, zero, suc, ◌+◌, ◌<◌, List, [], ◌∷◌, ◌++◌, length, get_or, map, take, drop, codes, Some, sym, ap, subst, ◌∙◌, refl, arith, append_assoc, slice_get, unwrap_or}
 use Rattle.std.specs.List.{flat_map}
 use Rattle.std.specs.Fmt.{decimal}
-use Rattle.std.proofs.lemmas.List.{append-nil, length-map, map-append, take_more, length-take-le, take-append-drop}
+use Rattle.std.proofs.lemmas.List.{append-nil, take_more, length-take-le, take-append-drop}
 use Rattle.dl_io.specs.Gathering.{Gathered, Takes, TakesPrefix}
 use Rattle.dl_io.proofs.Gathered.{Takes-append, TakesPrefix-append, TakesPrefix-front}
 use Rattle.dl_names.specs.NameList.{Text}
@@ -83,6 +83,7 @@ names_closed names column n (m ∷ tuple) =
   where
     front : (text joined end : List ℕ) → ((60 ∷ (text ++ 62 ∷ [])) ++ (codes ", " ++ joined)) ++ end ≡ 60 ∷ (text ++ 62 ∷ 44 ∷ 32 ∷ (joined ++ end))
     front text joined end = ap (λ l. 60 ∷ l) (simp append_assoc)
+
     back : (next rest end : List ℕ) → next ++ (rest ++ end) ≡ (next ++ rest) ++ end
     back next rest end = sym (append_assoc next rest end)
 

@@ -1,5 +1,5 @@
 -- From an answer to what is told of it.
-use Rattle.std.proofs.Common.{◌≡◌, ℕ, Result, Ok, Err, ap, subst, ◌∙◌}
+use Rattle.std.proofs.Common.{◌≡◌, ℕ, Result, Ok, Err, subst}
 use Rattle.std.specs.declared.option.Option.{Option}
 use Rattle.dl_terms.specs.Reply.{IsReply, found, inconsistent, too_many}
 use Rattle.dl_terms.specs.Table.{Table}

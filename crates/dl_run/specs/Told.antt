@@ -3,15 +3,16 @@ use Rattle.std.specs.Prelude.{◌≡◌, ℕ, ◌<◌, List, Option, string_byte
 use Rattle.std.specs.List.{All}
 use Rattle.dl_names.specs.NameList.{Text}
 use Rattle.dl_terms.specs.Reply.{Reply, found, inconsistent}
+use Rattle.dl_terms.specs.Table.{Table}
 use Rattle.dl_terms.specs.declared.axiom.Axiom.{Axiom}
 use Rattle.dl_run.specs.Output.{answers_text, broken_text, inconsistent_text}
 use Rattle.dl_run.specs.declared.told.Told.{Told}
 use Rattle.dl_run.specs.declared.told.Told.TheVariants.{Found, Inconsistent}
 
--- the names of answers are below a count
+-- the names of answers, where some are told, are below a count
 abbrev pub HasNamesBelow : ℕ → Told → Type 0
-HasNamesBelow count (Found tuples) = All (λ tuple. All (λ n. n < count) tuple) tuples.tuples
-HasNamesBelow count (Inconsistent text) = Unit {0}
+HasNamesBelow count told =
+    (tuples : Table) → told ≡ Found tuples → All (λ tuple. All (λ n. n < count) tuple) tuples.tuples
 
 -- the text of what is told
 abbrev pub told_text : List Text → Told → List ℕ

@@ -230,10 +230,7 @@ fn put_names<S: Sink>(
     for column in 0..answers.width() {
         put_all(
             out,
-            &[
-                opening(column),
-                names.text(answers.name(row, column)),
-            ],
+            &[opening(column), names.text(answers.name(row, column))],
         )?;
     }
     Ok(())

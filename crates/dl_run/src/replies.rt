@@ -1,9 +1,10 @@
 // The answers to what the files of `answer` ask.
-ghost use Rattle.std.specs.Prelude.{◌≡◌, ◌<◌, length, IfOk, IfSome, string_bytes};
+ghost use Rattle.std.specs.Prelude.{◌≡◌, ◌<◌, ℕ, length, Ok, Err, IfOk, IfSome, string_bytes};
 ghost use Rattle.std.specs.List.{All};
 ghost use Rattle.dl_terms.specs.Occurring.{axiom_names};
 ghost use Rattle.dl_run.specs.Answered.{AreTold, RepliesTo};
 ghost use Rattle.dl_run.specs.Asked.{load_of, IsMade, AnswersAsked};
+ghost use Rattle.dl_run.specs.declared.answer.Asked.{Asked as Question};
 ghost use Rattle.dl_run.specs.Limits.{IsWithinLimits};
 ghost use Rattle.dl_run.specs.Output.{broken_text};
 
@@ -42,7 +43,7 @@ pub(crate) fn answers_for(alloc: Global, asked: Asked, limit: u64) -> Result<Ans
     })
 }
 
-/// What is told of an answer: its tuples, or the text of the broken axiom.
+/// What is told of an answer, or why there is none.
 fn told_of(
     alloc: Global,
     answer: Result<Answer, AskFault>,
@@ -53,14 +54,39 @@ fn told_of(
     ensures { AreTold (load_of asked.now) asked.now.query limit result }
 {
     match answer {
-        Ok(Answer::Found { tuples, .. }) => Ok(Told::Found(tuples)),
-        Ok(Answer::Inconsistent { axiom, .. }) => {
+        Ok(answer) => {
+            let told = told_answer(alloc, answer, asked)?;
+            Ok(told)
+        }
+        Err(fault) => Err(stop_of(fault, limit)),
+    }
+}
+
+/// What is told of an answer: its tuples, or the text of the broken axiom.
+fn told_answer(alloc: Global, answer: Answer, asked: &Asked) -> Result<Told, NoMemory>
+    requires { (limit : ℕ) × AnswersAsked asked.now limit (Ok answer) }
+    ensures { IfOk result (λ told. (limit : ℕ) → AnswersAsked asked.now limit (Ok answer) →
+        AreTold (load_of asked.now) asked.now.query limit (Ok told)) }
+{
+    match answer {
+        Answer::Found { tuples, .. } => Ok(Told::Found(tuples)),
+        Answer::Inconsistent { axiom, .. } => {
             let text = broken_text(alloc, &axiom, &asked.names)?;
             Ok(Told::Inconsistent(text))
         }
-        Err(AskFault::TooMany { .. }) => Err(Stop::Refused(Refusal::TooMany { limit })),
-        Err(AskFault::NoPin) => unreachable!(),
-        Err(AskFault::NoMemory) => Err(Stop::NoMemory),
+    }
+}
+
+/// Why there is no answer.
+fn stop_of(fault: AskFault, limit: u64) -> Stop
+    requires { (asked : Question) × AnswersAsked asked limit (Err fault) }
+    ensures { (asked : Question) → AnswersAsked asked limit (Err fault) →
+        AreTold (load_of asked) asked.query limit (Err result) }
+{
+    match fault {
+        AskFault::TooMany { .. } => Stop::Refused(Refusal::TooMany { limit }),
+        AskFault::NoPin => unreachable!(),
+        AskFault::NoMemory => Stop::NoMemory,
     }
 }
 

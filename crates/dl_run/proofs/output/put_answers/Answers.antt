@@ -1,6 +1,6 @@
 use Rattle.std.proofs.Common.{subst}
 use Rattle.std.proofs.lemmas.Result.{on_ok_weaker, on_err_weaker}
-use Rattle.dl_io.specs.Gathering.{Takes, TakesPrefix, state_of}
+use Rattle.dl_io.specs.Gathering.{Takes, TakesPrefix}
 use Rattle.dl_io.proofs.Answered.{OnErr-anyway}
 use Rattle.dl_io.proofs.Gathered.{Takes-append, TakesPrefix-append, TakesPrefix-front}
 use Rattle.dl_run.proofs.OutputLemmas.{facts_pieces}

@@ -1,10 +1,10 @@
-use Rattle.std.proofs.Common.{◌≡◌, ◌∙◌, [], ◌++◌, ap, length, get_or, refl, subst}
+use Rattle.std.proofs.Common.{◌≡◌, [], ◌++◌, get_or, refl, subst}
 use Rattle.std.proofs.lemmas.Result.{on_ok_weaker, on_err_weaker}
 use Rattle.dl_io.specs.Gathering.{Takes, TakesPrefix, state_of}
 use Rattle.dl_io.proofs.Answered.{OnErr-anyway}
 use Rattle.dl_io.proofs.Gathered.{Takes-append, TakesPrefix-append, TakesPrefix-front}
 use Rattle.dl_run.specs.Output.{tuple_line}
-use Rattle.dl_run.specs.Pieces.{closing, opened}
+use Rattle.dl_run.specs.Pieces.{opened}
 use Rattle.dl_run.proofs.OutputLemmas.{line_closed, closed_by}
 use Rattle.dl_run.proofs.output.put_line.Goals as goal
 

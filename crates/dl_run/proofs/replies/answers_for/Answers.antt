@@ -17,8 +17,8 @@ pub invariant_of-result : goal.invariant_of-result
 invariant_of-result c =
     let asked = c.args.asked in
     record {
-      told_named = told_named asked.axioms asked.facts asked.names asked.facts_named asked.query c.requires.made.well_formed c.in_ok-told.told
-          c.in_ok-told.ensures;
+      told_named = told_named asked.axioms asked.facts asked.names asked.facts_named asked.nothing c.args.limit asked.query
+          c.requires.made.well_formed c.in_ok-told.told c.in_ok-told.ensures;
     }
 
 pub returns-in_err-told : goal.returns-in_err-told
