@@ -2,10 +2,10 @@
 ghost use Rattle.std.specs.Prelude.{◌≤◌, ◌∷◌, [], length, None, if◌then◌else◌, codes, bytes_eq};
 ghost use Rattle.std.specs.List.{list_any};
 
-use crate::run::{
-    ANSWER, Example, ROOM, SUBCLASS, SUBCLASS_CYCLE, ends, files_of, new_sink, words_of,
-};
-use dl_io::{Failed, Library, MemoryLibrary, MemorySink, SafeLibrary, Sink, names_differ};
+use crate::io::{failing_files, files_of};
+use crate::run::{ANSWER, Example, ROOM, SUBCLASS, SUBCLASS_CYCLE, ends, new_sink};
+use crate::spelling::words_of;
+use dl_io::{Failed, Library, MemorySink, SafeLibrary, Sink};
 use dl_run::{Status, quest};
 use std::alloc::{AllocError, Global};
 use std::test::Fail;
@@ -67,7 +67,7 @@ impl Library for Repeated {
 
 // A body that reads another file on the way, as one at 5,000,000 bytes, fails here.
 #[test]
-fn no_other_file_is_read(rt: HostRuntime) -> Result<(), Fail> {
+fn no_other_file_is_read(rt: HostRuntime) {
     let line = "<a> <http://www.w3.org/1999/02/22-rdf-syntax-ns#type> <A> .\n";
     let mut files = Repeated {
         line,
@@ -75,30 +75,12 @@ fn no_other_file_is_read(rt: HostRuntime) -> Result<(), Fail> {
         faults: 0,
     };
     let output = "facts 1 skipped 0\nanswers 1\n(<a>)\n";
-    assert!(rt; ends(rt.alloc(), &mut files, ANSWER, Status::Done, output)?);
-    assert!(rt; files.faults == 0);
-    Ok(())
+    let ended = ends(rt.alloc(), &mut files, ANSWER, Status::Done, output);
+    assert!(rt; matches!(ended, Ok(true)) && files.faults == 0);
 }
 
 /// The number of a call that doesn't come.
 const NEVER: u64 = u64::MAX;
-
-const DATA_FILE_MISSING: &[(&str, &str)] = &[
-    ("ontology.ofn", "Ontology(SubClassOf(<A> <B>))"),
-    ("query.q", "q(?x) :- <B>(?x)"),
-];
-
-/// The same beside an ontology with a fault: the files are read whole before any is tested.
-const DATA_MISSING_BESIDE_FAULT: &[(&str, &str)] = &[
-    ("ontology.ofn", "Ontology(DisjointClasses(<A>))"),
-    ("query.q", "q(?x) :- <B>(?x)"),
-];
-
-/// The same beside data with a fault.
-const QUERY_MISSING_BESIDE_FAULT: &[(&str, &str)] = &[
-    ("ontology.ofn", "Ontology(SubClassOf(<A> <B>))"),
-    ("data.nt", "no triple\n"),
-];
 
 /// Takes at most so many bytes a call, but at least one, and fails as its sink does.
 #[derive(Drop)]
@@ -118,19 +100,6 @@ impl Sink for Pieces {
     }
 }
 
-/// Files in memory, where the read of this number fails.
-fn failing_files(
-    alloc: Global,
-    texts: &[(&str, &str)],
-    read: u64,
-) -> Result<Option<MemoryLibrary>, AllocError> {
-    let files = files_of(alloc, texts)?;
-    if !names_differ(files.as_slice()) {
-        return Ok(None);
-    }
-    Ok(Some(MemoryLibrary::new(files, Vec::from_slice(alloc, &[read])?)))
-}
-
 /// A sink that takes at most so many bytes a call, where the write of this number fails.
 fn failing_sink(alloc: Global, write: u64, most: usize) -> Result<Pieces, AllocError> {
     let buffer = Vec::with_capacity(alloc, ROOM)?;
@@ -138,16 +107,16 @@ fn failing_sink(alloc: Global, write: u64, most: usize) -> Result<Pieces, AllocE
     Ok(Pieces { sink, most })
 }
 
-/// Whether the program ends with this status and text where the read of this number fails.
+/// Whether the program ends with this status and text for an example where the read of this number fails.
 fn read_ends(
     alloc: Global,
-    texts: &[(&str, &str)],
+    example: &Example,
     read: u64,
     status: Status,
     text: &str,
 ) -> Result<bool, AllocError> {
-    match failing_files(alloc, texts, read)? {
-        Some(mut files) => ends(alloc, &mut files, ANSWER, status, text),
+    match failing_files(alloc, example.files, read)? {
+        Some(mut files) => ends(alloc, &mut files, example.words, status, text),
         None => Ok(false),
     }
 }
@@ -155,16 +124,10 @@ fn read_ends(
 /// The number of reads up to the first run that none fails: each one before ends as a read fault.
 fn failing_reads(alloc: Global, example: &Example) -> Result<Option<u64>, AllocError> {
     for read in 0..NEVER {
-        if read_ends(alloc, example.files, read, example.status, example.output)? {
+        if read_ends(alloc, example, read, example.status, example.output)? {
             return Ok(Some(read));
         }
-        if !read_ends(
-            alloc,
-            example.files,
-            read,
-            Status::ReadFault,
-            "read fault\n",
-        )? {
+        if !read_ends(alloc, example, read, Status::ReadFault, "read fault\n")? {
             return Ok(None);
         }
     }
@@ -172,23 +135,9 @@ fn failing_reads(alloc: Global, example: &Example) -> Result<Option<u64>, AllocE
 }
 
 #[test]
-fn each_failing_read_is_a_read_fault(rt: HostRuntime) -> Result<(), Fail> {
+fn each_failing_read_is_a_read_fault(rt: HostRuntime) {
     // Each of the three files is read twice: its bytes, and its end.
-    assert!(rt; failing_reads(rt.alloc(), &SUBCLASS)? == Some(6));
-    Ok(())
-}
-
-/// Whether a file that is missing is a read fault.
-fn misses(alloc: Global, texts: &[(&str, &str)]) -> Result<bool, AllocError> {
-    read_ends(alloc, texts, NEVER, Status::ReadFault, "read fault\n")
-}
-
-#[test]
-fn a_missing_file_is_a_read_fault(rt: HostRuntime) -> Result<(), Fail> {
-    assert!(rt; misses(rt.alloc(), DATA_FILE_MISSING)?);
-    assert!(rt; misses(rt.alloc(), DATA_MISSING_BESIDE_FAULT)?);
-    assert!(rt; misses(rt.alloc(), QUERY_MISSING_BESIDE_FAULT)?);
-    Ok(())
+    assert!(rt; matches!(failing_reads(rt.alloc(), &SUBCLASS), Ok(Some(6))));
 }
 
 /// How a run ends where the write of this number fails: true where it is done with the whole output,
@@ -224,19 +173,17 @@ fn failing_writes(alloc: Global, most: usize) -> Result<Option<u64>, AllocError>
 }
 
 #[test]
-fn each_failing_write_is_a_write_fault(rt: HostRuntime) -> Result<(), Fail> {
+fn each_failing_write_is_a_write_fault(rt: HostRuntime) {
     // Gathered, the output is one write, and 34 of single bytes.
-    assert!(rt; failing_writes(rt.alloc(), ROOM)? == Some(1));
-    assert!(rt; failing_writes(rt.alloc(), 1)? == Some(34));
-    Ok(())
+    assert!(rt; matches!(failing_writes(rt.alloc(), ROOM), Ok(Some(1))));
+    assert!(rt; matches!(failing_writes(rt.alloc(), 1), Ok(Some(34))));
 }
 
 /// What one run writes for an example: its output, or that there was no memory; None where it is neither.
 fn output_of(alloc: Global, example: &Example) -> Result<Option<&'static str>, AllocError> {
-    let files = files_of(alloc, example.files)?;
-    if !names_differ(files.as_slice()) {
+    let Some(files) = files_of(alloc, example.files)? else {
         return Ok(None);
-    }
+    };
     let words = words_of(alloc, example.words)?;
     let mut sink = new_sink(alloc)?;
     let status = quest(

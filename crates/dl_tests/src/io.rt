@@ -1,5 +1,6 @@
 // What libraries of files and sinks of bytes do.
-ghost use Rattle.std.specs.Prelude.{ℕ, ◌≡◌, ◌≤◌, length, None, Some, IfOk, if◌then◌else◌, bytes_eq, codes};
+ghost use Rattle.std.specs.Prelude.{ℕ, ◌≡◌, ◌≤◌, length, None, Some, IfOk, IfSome, if◌then◌else◌, bytes_eq, codes};
+ghost use Rattle.dl_io.specs.Files.{files_of, HaveDifferentNames};
 
 use dl_io::{
     Failed, FileFault, FileLibrary, GatheringSink, Library, MemoryLibrary, MemorySink, OutSink,
@@ -14,7 +15,8 @@ use std::rt::Files;
 use std::test::Fail;
 use std::{fs, process};
 
-type NamedFiles = Vec<(String, Vec<u8>)>;
+/// Files, each with its name.
+pub(crate) type NamedFiles = Vec<(String, Vec<u8>)>;
 
 /// Two files, one of them empty.
 const TWO: [(&str, &str); 2] = [("letters", "abc"), ("empty", "")];
@@ -22,20 +24,29 @@ const TWO: [(&str, &str); 2] = [("letters", "abc"), ("empty", "")];
 /// The same, and another file of the first name.
 const ONE_NAME_TWICE: [(&str, &str); 3] = [("letters", "abc"), ("empty", ""), ("letters", "")];
 
-fn files_of(alloc: Global, texts: &[(&str, &str)]) -> Result<NamedFiles, AllocError> {
+/// Files with these texts, if no two have one name.
+pub(crate) fn files_of(
+    alloc: Global,
+    texts: &[(&str, &str)],
+) -> Result<Option<NamedFiles>, AllocError>
+    ensures { IfOk result (λ found. IfSome found (λ files. HaveDifferentNames (files_of files.items))) }
+{
     let mut files = Vec::new(alloc);
     for (name, text) in texts {
         let name = String::from_str(alloc, name)?;
         files.push((name, Vec::from_slice(alloc, text.as_bytes())?))?;
     }
-    Ok(files)
+    Ok(if names_differ(files.as_slice()) {
+        Some(files)
+    } else {
+        None
+    })
 }
 
 #[test]
-fn tells_names_apart(rt: HostRuntime) -> Result<(), Fail> {
-    assert!(rt; names_differ(files_of(rt.alloc(), &TWO)?.as_slice()));
-    assert!(rt; !names_differ(files_of(rt.alloc(), &ONE_NAME_TWICE)?.as_slice()));
-    Ok(())
+fn tells_names_apart(rt: HostRuntime) {
+    assert!(rt; matches!(files_of(rt.alloc(), &TWO), Ok(Some(_))));
+    assert!(rt; matches!(files_of(rt.alloc(), &ONE_NAME_TWICE), Ok(None)));
 }
 
 /// Whether a file is read whole, with these bytes.
@@ -48,10 +59,7 @@ fn reads<L: Library>(alloc: Global, files: &mut L, name: &str, bytes: &str) -> b
 
 /// Whether reading a file fails.
 fn fails_to_read<L: Library>(alloc: Global, files: &mut L, name: &str) -> bool {
-    match read_whole(alloc, files, name) {
-        Ok(_) => false,
-        Err(fault) => fault == FileFault::Failed,
-    }
+    matches!(read_whole(alloc, files, name), Err(FileFault::Failed))
 }
 
 /// Whether both files are read whole, and one that isn't there as an empty one.
@@ -61,64 +69,59 @@ fn reads_two<L: Library>(alloc: Global, files: &mut L) -> bool {
         && reads(alloc, files, "absent", "")
 }
 
-/// Whether the two files are read so in memory.
+/// Whether the two files are read so in memory, also where each read gives one byte.
 fn reads_in_memory(alloc: Global) -> Result<bool, AllocError> {
-    let files = files_of(alloc, &TWO)?;
-    if !names_differ(files.as_slice()) {
+    let (Some(files), Some(again)) = (files_of(alloc, &TWO)?, files_of(alloc, &TWO)?) else {
         return Ok(false);
-    }
-    Ok(reads_two(alloc, &mut SafeLibrary::new(files)))
+    };
+    Ok(
+        reads_two(alloc, &mut SafeLibrary::new(files))
+            && reads_two(alloc, &mut ShortLibrary::new(again)),
+    )
 }
 
-/// Whether they are where each read gives one byte.
-fn reads_by_bytes(alloc: Global) -> Result<bool, AllocError> {
-    let files = files_of(alloc, &TWO)?;
-    if !names_differ(files.as_slice()) {
-        return Ok(false);
+/// The number of the call that fails, the name of a file, and its bytes, or none where reading it fails. The file takes
+/// two reads: one for its bytes, and one that finds the end.
+const READS: &[(u64, &str, Option<&str>)] = &[
+    (0, "letters", None),
+    (1, "letters", None),
+    (2, "letters", Some("abc")),
+    (2, "absent", None),
+];
+
+/// Files in memory, where the read of this number fails.
+pub(crate) fn failing_files(
+    alloc: Global,
+    texts: &[(&str, &str)],
+    read: u64,
+) -> Result<Option<MemoryLibrary>, AllocError> {
+    match files_of(alloc, texts)? {
+        Some(files) => Ok(Some(MemoryLibrary::new(files, Vec::from_slice(alloc, &[read])?))),
+        None => Ok(None),
     }
-    Ok(reads_two(alloc, &mut ShortLibrary::new(files)))
+}
+
+/// Whether a file is read as each row says.
+fn are_read(alloc: Global, rows: &[(u64, &str, Option<&str>)]) -> bool {
+    for (call, name, bytes) in rows {
+        let Ok(Some(mut files)) = failing_files(alloc, &TWO, *call) else {
+            return false;
+        };
+        let is_so = match bytes {
+            Some(bytes) => reads(alloc, &mut files, name, bytes),
+            None => fails_to_read(alloc, &mut files, name),
+        };
+        if !is_so {
+            return false;
+        }
+    }
+    true
 }
 
 #[test]
-fn reads_whole(rt: HostRuntime) -> Result<(), Fail> {
-    assert!(rt; reads_in_memory(rt.alloc())?);
-    assert!(rt; reads_by_bytes(rt.alloc())?);
-    Ok(())
-}
-
-/// The two files, where the call of this number is to fail.
-fn failing_files(alloc: Global, call: u64) -> Result<Option<MemoryLibrary>, AllocError> {
-    let files = files_of(alloc, &TWO)?;
-    if !names_differ(files.as_slice()) {
-        return Ok(None);
-    }
-    Ok(Some(MemoryLibrary::new(files, Vec::from_slice(alloc, &[call])?)))
-}
-
-/// Whether reading a file fails where the call of this number does.
-fn fails_at(alloc: Global, call: u64, name: &str) -> Result<bool, AllocError> {
-    match failing_files(alloc, call)? {
-        Some(mut files) => Ok(fails_to_read(alloc, &mut files, name)),
-        None => Ok(false),
-    }
-}
-
-/// Whether the file of letters is read all the same.
-fn reads_despite(alloc: Global, call: u64) -> Result<bool, AllocError> {
-    match failing_files(alloc, call)? {
-        Some(mut files) => Ok(reads(alloc, &mut files, "letters", "abc")),
-        None => Ok(false),
-    }
-}
-
-// The file takes two reads: one for its bytes, and one that finds the end.
-#[test]
-fn reads_fail_when_they_are_to(rt: HostRuntime) -> Result<(), Fail> {
-    assert!(rt; fails_at(rt.alloc(), 0, "letters")?);
-    assert!(rt; fails_at(rt.alloc(), 1, "letters")?);
-    assert!(rt; reads_despite(rt.alloc(), 2)?);
-    assert!(rt; fails_at(rt.alloc(), 2, "absent")?);
-    Ok(())
+fn reads_whole_or_fails(rt: HostRuntime) {
+    assert!(rt; matches!(reads_in_memory(rt.alloc()), Ok(true)));
+    assert!(rt; are_read(rt.alloc(), READS));
 }
 
 /// A library of one file of zeros. Every other name fails.
@@ -169,36 +172,35 @@ fn writes_two<S: Sink>(sink: &mut S) -> bool {
     write_all(sink, b"abc").is_ok() && write_all(sink, b"de").is_ok()
 }
 
-/// Whether a sink with so much room keeps these bytes of the two texts.
-fn keeps(alloc: Global, room: usize, kept: &str) -> Result<bool, AllocError> {
-    let mut sink = SafeSink::new(Vec::with_capacity(alloc, room)?);
-    Ok(writes_two(&mut sink) && sink.bytes() == kept.as_bytes())
-}
+/// The room of a sink, what it keeps of the two texts where pieces fit or are lost, and what of single bytes.
+const KEPT: &[(usize, &str, &str)] = &[
+    (0, "", ""),
+    (2, "", "ab"),
+    (3, "abc", "abc"),
+    (4, "abc", "abcd"),
+    (5, "abcde", "abcde"),
+    (9, "abcde", "abcde"),
+];
 
-/// The same of a sink that takes single bytes.
-fn keeps_bytes(alloc: Global, room: usize, kept: &str) -> Result<bool, AllocError> {
-    let mut sink = ShortSink::new(Vec::with_capacity(alloc, room)?);
-    Ok(writes_two(&mut sink) && sink.bytes() == kept.as_bytes())
-}
-
-#[test]
-fn writes_all(rt: HostRuntime) -> Result<(), Fail> {
-    assert!(rt; keeps(rt.alloc(), 0, "")?);
-    assert!(rt; keeps(rt.alloc(), 2, "")?);
-    assert!(rt; keeps(rt.alloc(), 3, "abc")?);
-    assert!(rt; keeps(rt.alloc(), 4, "abc")?);
-    assert!(rt; keeps(rt.alloc(), 5, "abcde")?);
-    assert!(rt; keeps(rt.alloc(), 9, "abcde")?);
-    Ok(())
-}
-
-#[test]
-fn writes_all_by_single_bytes(rt: HostRuntime) -> Result<(), Fail> {
-    assert!(rt; keeps_bytes(rt.alloc(), 0, "")?);
-    assert!(rt; keeps_bytes(rt.alloc(), 2, "ab")?);
-    assert!(rt; keeps_bytes(rt.alloc(), 5, "abcde")?);
-    assert!(rt; keeps_bytes(rt.alloc(), 9, "abcde")?);
-    Ok(())
+/// Whether sinks keep what each row says.
+fn all_keep(alloc: Global, rows: &[(usize, &str, &str)]) -> bool {
+    for (room, pieces, bytes) in rows {
+        let (Ok(one), Ok(two)) = (
+            Vec::with_capacity(alloc, *room),
+            Vec::with_capacity(alloc, *room),
+        ) else {
+            return false;
+        };
+        let (mut whole, mut single) = (SafeSink::new(one), ShortSink::new(two));
+        if !writes_two(&mut whole)
+            || !writes_two(&mut single)
+            || whole.bytes() != pieces.as_bytes()
+            || single.bytes() != bytes.as_bytes()
+        {
+            return false;
+        }
+    }
+    true
 }
 
 /// A sink with room for nine bytes, where the call of this number is to fail.
@@ -207,28 +209,35 @@ fn failing_sink(alloc: Global, call: u64) -> Result<MemorySink, AllocError> {
     Ok(MemorySink::new(buffer, Vec::from_slice(alloc, &[call])?))
 }
 
-/// Whether the two texts are written or not, as is said, and these bytes are kept.
-fn ends(
-    alloc: Global,
-    call: u64,
-    first: bool,
-    second: bool,
-    kept: &str,
-) -> Result<bool, AllocError> {
-    let mut sink = failing_sink(alloc, call)?;
-    Ok(
-        write_all(&mut sink, b"abc").is_ok() == first
-            && write_all(&mut sink, b"de").is_ok() == second
-            && sink.bytes() == kept.as_bytes(),
-    )
+/// The number of the call that fails, whether each of the two texts is written, and what is kept.
+type Ending = (u64, bool, bool, &'static str);
+
+const ENDINGS: &[Ending] = &[
+    (0, false, true, "de"),
+    (1, true, false, "abc"),
+    (2, true, true, "abcde"),
+];
+
+/// Whether the two texts are written as each row says.
+fn all_end(alloc: Global, rows: &[Ending]) -> bool {
+    for (call, first, second, kept) in rows {
+        let Ok(mut sink) = failing_sink(alloc, *call) else {
+            return false;
+        };
+        if write_all(&mut sink, b"abc").is_ok() != *first
+            || write_all(&mut sink, b"de").is_ok() != *second
+            || sink.bytes() != kept.as_bytes()
+        {
+            return false;
+        }
+    }
+    true
 }
 
 #[test]
-fn writes_fail_when_they_are_to(rt: HostRuntime) -> Result<(), Fail> {
-    assert!(rt; ends(rt.alloc(), 0, false, true, "de")?);
-    assert!(rt; ends(rt.alloc(), 1, true, false, "abc")?);
-    assert!(rt; ends(rt.alloc(), 2, true, true, "abcde")?);
-    Ok(())
+fn writes_all_or_fails(rt: HostRuntime) {
+    assert!(rt; all_keep(rt.alloc(), KEPT));
+    assert!(rt; all_end(rt.alloc(), ENDINGS));
 }
 
 /// Puts two texts into a sink that gathers up to so many bytes, and answers whether both were taken,
@@ -255,23 +264,35 @@ fn gathers_up_to(alloc: Global, room: usize, call: u64, kept: &str) -> Result<bo
     Ok(!(taken && handed) && sink.bytes() == kept.as_bytes())
 }
 
-#[test]
-fn gathers_what_fits(rt: HostRuntime) -> Result<(), Fail> {
-    // With no room each text is handed on at once, with room for one text one of them is.
-    assert!(rt; gathers_in(rt.alloc(), 0, 2)?);
-    assert!(rt; gathers_in(rt.alloc(), 2, 2)?);
-    assert!(rt; gathers_in(rt.alloc(), 3, 2)?);
-    assert!(rt; gathers_in(rt.alloc(), 5, 1)?);
-    assert!(rt; gathers_in(rt.alloc(), 9, 1)?);
-    Ok(())
+/// For how many bytes there is room, and how many writes the two texts take. With no room each text is handed on at
+/// once, with room for one text one of them is.
+const GATHERED: &[(usize, u64)] = &[(0, 2), (2, 2), (3, 2), (5, 1), (9, 1)];
+
+/// For how many bytes there is room, the number of the write that fails, and what is kept.
+const CUT: &[(usize, u64, &str)] = &[(0, 1, "abc"), (2, 1, "abc"), (5, 0, "")];
+
+fn all_gather(alloc: Global, rows: &[(usize, u64)]) -> bool {
+    for (room, writes) in rows {
+        if !matches!(gathers_in(alloc, *room, *writes), Ok(true)) {
+            return false;
+        }
+    }
+    true
+}
+
+fn all_are_cut(alloc: Global, rows: &[(usize, u64, &str)]) -> bool {
+    for (room, call, kept) in rows {
+        if !matches!(gathers_up_to(alloc, *room, *call, kept), Ok(true)) {
+            return false;
+        }
+    }
+    true
 }
 
 #[test]
-fn a_fault_leaves_a_prefix(rt: HostRuntime) -> Result<(), Fail> {
-    assert!(rt; gathers_up_to(rt.alloc(), 0, 1, "abc")?);
-    assert!(rt; gathers_up_to(rt.alloc(), 2, 1, "abc")?);
-    assert!(rt; gathers_up_to(rt.alloc(), 5, 0, "")?);
-    Ok(())
+fn gathers_what_fits(rt: HostRuntime) {
+    assert!(rt; all_gather(rt.alloc(), GATHERED));
+    assert!(rt; all_are_cut(rt.alloc(), CUT));
 }
 
 /// A new file of the system with a text: its path.
@@ -286,20 +307,23 @@ fn reads_file(rt: &HostRuntime, path: &str, bytes: &str) -> bool {
     reads(rt.alloc(), &mut FileLibrary::new(rt), path, bytes)
 }
 
-/// Whether it is while it is there. It is removed.
+/// Whether it is while it is there, and fails once it is removed.
 fn reads_and_removes(rt: &HostRuntime, path: &str, bytes: &str) -> io::Result<bool> {
     let read = reads_file(rt, path, bytes);
     fs::remove_file(rt, path)?;
-    Ok(read)
+    Ok(read && fails_to_read(rt.alloc(), &mut FileLibrary::new(rt), path))
+}
+
+/// Whether a file of the system is read while it is there, and fails afterwards.
+fn reaches_a_file(rt: &HostRuntime) -> io::Result<bool> {
+    let path = written(rt, "any", "from a file")?;
+    reads_and_removes(rt, path.as_str(), "from a file")
 }
 
 #[test]
-fn reaches_files_of_the_system(rt: HostRuntime) -> Result<(), Fail> {
-    let path = written(&rt, "any", "from a file")?;
-    assert!(rt; reads_and_removes(&rt, path.as_str(), "from a file")?);
+fn reaches_files_of_the_system(rt: HostRuntime) {
+    assert!(rt; matches!(reaches_a_file(&rt), Ok(true)));
     assert!(rt; reads_file(&rt, "/dev/null", ""));
-    assert!(rt; fails_to_read(rt.alloc(), &mut FileLibrary::new(&rt), path.as_str()));
-    Ok(())
 }
 
 /// Whether a file of the system is read from these offsets on, one after another, with one byte each.
@@ -407,7 +431,6 @@ fn hands_bytes_to_the_output(rt: HostRuntime) {
 }
 
 #[test]
-fn reaches_the_standard_output(rt: HostRuntime) -> Result<(), Fail> {
+fn reaches_the_standard_output(rt: HostRuntime) {
     assert!(rt; write_all(&mut OutSink::new(&rt), b"written through a sink\n").is_ok());
-    Ok(())
 }

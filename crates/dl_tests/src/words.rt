@@ -1,9 +1,6 @@
-// Tests of the written forms: a table of words, and the same words read by a command of `clap`.
-use crate::run::words_of;
+// Words of the written forms as a command of `clap` reads them. Their forms are rows of the program.
 use clap::{Arg, Command, Error};
-use dl_run::{Form, form_of};
-use std::alloc::{AllocError, Global};
-use std::test::Fail;
+use std::alloc::Global;
 
 /// Words that have a form with three names, the names, and the number of the option.
 type Named = (&'static [&'static str], [&'static str; 3], u64);
@@ -52,148 +49,6 @@ const GENS: &[Numbers] = &[
     (&["gen", "4294967295", "100000"], 4_294_967_295, 100_000),
     (&["gen", "0000000007", "08"], 7, 8),
 ];
-
-const NO_FORM: &[&[&str]] = &[
-    &[],
-    &[""],
-    &["answer"],
-    &["answer", "o", "d"],
-    &["answer", "o", "d", "q", "r"],
-    &["answer", "o", "", "q"],
-    &["answer", "o", "d", "-"],
-    &["answer", "-o", "d", "q"],
-    &["Answer", "o", "d", "q"],
-    &["--limit", "1", "answer", "o", "d", "q"],
-    &["answer", "o", "d", "q", "--limit"],
-    &["answer", "o", "d", "q", "--limit="],
-    &["answer", "o", "d", "q", "--limit", ""],
-    &["answer", "o", "d", "q", "--limit=0"],
-    &["answer", "o", "d", "q", "--limit", "1000001"],
-    &["answer", "o", "d", "q", "--limit", "00000000010"],
-    &["answer", "o", "d", "q", "--limit", "+5"],
-    &["answer", "o", "d", "q", "--limit", "5 "],
-    &["answer", "o", "d", "q", "--limit", "1", "--limit", "1"],
-    &["answer", "--limit=1", "o", "--limit=1", "d", "q"],
-    &["answer", "o", "d", "q", "--limit1"],
-    &["answer", "o", "d", "q", "--lim", "1"],
-    &["answer", "o", "d", "q", "--shards", "1"],
-    &["answer", "--", "o", "d", "q"],
-    &["answer", "o", "d", "--limit", "q"],
-    &["run", "o", "d", "s", "--limit", "1"],
-    &["run", "o", "d", "s", "--shards", "65"],
-    &["run", "o", "d", "s", "--shards", "0"],
-    &["gen"],
-    &["gen", "1"],
-    &["gen", "1", "0"],
-    &["gen", "1", "100001"],
-    &["gen", "4294967296", "1"],
-    &["gen", "-1", "1"],
-    &["gen", "1", "1", "--limit", "1"],
-];
-
-/// Whether the words have the form of `answer` with these names and this limit.
-fn is_answer(
-    alloc: Global,
-    words: &[&str],
-    names: &[&str; 3],
-    limit: u64,
-) -> Result<bool, AllocError> {
-    let words = words_of(alloc, words)?;
-    Ok(match form_of(words.as_slice()) {
-        Form::Answer(found) => {
-            found.ontology == names[0]
-                && found.facts == names[1]
-                && found.query == names[2]
-                && found.limit == limit
-        }
-        _ => false,
-    })
-}
-
-/// Whether they have the form of `run` with these names and so many shards.
-fn is_run(
-    alloc: Global,
-    words: &[&str],
-    names: &[&str; 3],
-    shards: u64,
-) -> Result<bool, AllocError> {
-    let words = words_of(alloc, words)?;
-    Ok(match form_of(words.as_slice()) {
-        Form::Run(found) => {
-            found.ontology == names[0]
-                && found.facts == names[1]
-                && found.streams == names[2]
-                && found.shards == shards
-        }
-        _ => false,
-    })
-}
-
-fn is_gen(alloc: Global, words: &[&str], number: u64, size: u64) -> Result<bool, AllocError> {
-    let words = words_of(alloc, words)?;
-    Ok(match form_of(words.as_slice()) {
-        Form::Gen(found) => found.number == number && found.size == size,
-        _ => false,
-    })
-}
-
-fn has_no_form(alloc: Global, words: &[&str]) -> Result<bool, AllocError> {
-    let words = words_of(alloc, words)?;
-    Ok(match form_of(words.as_slice()) {
-        Form::Usage => true,
-        _ => false,
-    })
-}
-
-fn all_answers(alloc: Global, rows: &[Named]) -> Result<bool, AllocError> {
-    for (words, names, limit) in rows {
-        if !is_answer(alloc, words, names, *limit)? {
-            return Ok(false);
-        }
-    }
-    Ok(true)
-}
-
-fn all_runs(alloc: Global, rows: &[Named]) -> Result<bool, AllocError> {
-    for (words, names, shards) in rows {
-        if !is_run(alloc, words, names, *shards)? {
-            return Ok(false);
-        }
-    }
-    Ok(true)
-}
-
-fn all_gens(alloc: Global, rows: &[Numbers]) -> Result<bool, AllocError> {
-    for (words, number, size) in rows {
-        if !is_gen(alloc, words, *number, *size)? {
-            return Ok(false);
-        }
-    }
-    Ok(true)
-}
-
-fn none_has_a_form(alloc: Global, rows: &[&[&str]]) -> Result<bool, AllocError> {
-    for words in rows {
-        if !has_no_form(alloc, words)? {
-            return Ok(false);
-        }
-    }
-    Ok(true)
-}
-
-#[test]
-fn words_have_their_forms(rt: HostRuntime) -> Result<(), Fail> {
-    assert!(rt; all_answers(rt.alloc(), ANSWERS)?);
-    assert!(rt; all_runs(rt.alloc(), RUNS)?);
-    assert!(rt; all_gens(rt.alloc(), GENS)?);
-    Ok(())
-}
-
-#[test]
-fn other_words_have_none(rt: HostRuntime) -> Result<(), Fail> {
-    assert!(rt; none_has_a_form(rt.alloc(), NO_FORM)?);
-    Ok(())
-}
 
 /// Whether a text is a number, or there is none and the number is another one.
 fn is_number(text: Option<&str>, number: u64, default: u64) -> bool {
@@ -267,9 +122,13 @@ fn clap_reads_all_numbers(alloc: Global, rows: &[Numbers]) -> Result<bool, Error
 }
 
 #[test]
-fn clap_reads_the_same(rt: HostRuntime) -> Result<(), Fail> {
-    assert!(rt; clap_reads_all(rt.alloc(), "limit", ANSWERS, 10_000)?);
-    assert!(rt; clap_reads_all(rt.alloc(), "shards", RUNS, 4)?);
-    assert!(rt; clap_reads_all_numbers(rt.alloc(), GENS)?);
-    Ok(())
+fn clap_reads_the_same(rt: HostRuntime) {
+    assert!(rt;
+        matches!(
+            clap_reads_all(rt.alloc(), "limit", ANSWERS, 10_000),
+            Ok(true)
+        )
+    );
+    assert!(rt; matches!(clap_reads_all(rt.alloc(), "shards", RUNS, 4), Ok(true)));
+    assert!(rt; matches!(clap_reads_all_numbers(rt.alloc(), GENS), Ok(true)));
 }
