@@ -24,7 +24,7 @@ pub(crate) fn list_of<T: Copy + Drop>(alloc: Global, items: &[T]) -> Result<List
 }
 
 /// The axiom of a row.
-fn axiom_of(alloc: Global, row: &Row) -> Result<Axiom, AllocError> {
+pub(crate) fn axiom_of(alloc: Global, row: &Row) -> Result<Axiom, AllocError> {
     Ok(match *row {
         Row::SubClass(sub, parts) => Axiom::SubClass {
             sub,

@@ -1,7 +1,8 @@
+// Denials of axioms, worked out by hand from the table of negatives.
+use crate::axioms::{Row, axioms_of};
 use dl_deny::{Denial, denials};
-use dl_terms::{Atom, Axiom, Base, Basic, List, NoMemory, Part, Role, Term};
-use std::alloc::{AllocError, Global};
-use std::test::Fail;
+use dl_terms::{Atom, Axiom, Base, Basic, NoMemory, Part, Role, Term};
+use std::alloc::Global;
 
 const A: Basic = Basic::Class(0);
 
@@ -23,87 +24,96 @@ const Y: Term = Term::Var(1);
 
 const Z: Term = Term::Var(2);
 
-fn is(class: u32) -> Atom {
-    Atom::Is { class, at: X }
+const IS_A: Atom = Atom::Is { class: 0, at: X };
+
+const IS_B: Atom = Atom::Is { class: 1, at: X };
+
+const IS_NOTHING: Atom = Atom::Is { class: 2, at: X };
+
+const P_X_X: Atom = Atom::Link {
+    role: 3,
+    from: X,
+    to: X,
+};
+
+const P_X_Y: Atom = Atom::Link {
+    role: 3,
+    from: X,
+    to: Y,
+};
+
+const P_Y_X: Atom = Atom::Link {
+    role: 3,
+    from: Y,
+    to: X,
+};
+
+const P_Z_X: Atom = Atom::Link {
+    role: 3,
+    from: Z,
+    to: X,
+};
+
+/// Axioms with negatives of each kind, and one with none.
+const AXIOMS: &[Row] = &[
+    Row::SubClass(A, &[Part::Class(1), Part::Not(Basic::SomeOf(P))]),
+    Row::DisjointClasses(&[Basic::SomeOf(P), Basic::SomeOf(P_INVERSE), B]),
+    Row::SubRole(P, P_INVERSE),
+    Row::Asymmetric(P),
+    Row::Irreflexive(P_INVERSE),
+];
+
+/// A denial: the index of its axiom, or none for owl:Nothing; its atoms; and the number of its variables.
+type Denied = (Option<usize>, &'static [Atom], u8);
+
+/// The denials of these axioms, where owl:Nothing is the class 2.
+const DENIED: &[Denied] = &[
+    (Some(0), &[IS_A, P_X_Y], 2),
+    (Some(1), &[P_X_Y, P_Z_X], 3),
+    (Some(1), &[P_X_Y, IS_B], 2),
+    (Some(1), &[P_Y_X, IS_B], 2),
+    (Some(3), &[P_X_Y, P_Y_X], 2),
+    (Some(4), &[P_X_X], 1),
+    (None, &[IS_NOTHING, IS_NOTHING], 1),
+];
+
+/// Whether a denial is beside this axiom, with no head, these atoms and so many variables.
+fn is_row(denial: &Denial, row: &Denied, axioms: &[Axiom]) -> bool {
+    let stated = match row.0 {
+        Some(index) => axioms.get(index),
+        None => None,
+    };
+    denial.axiom.as_ref() == stated
+        && denial.query.head.len() == 0
+        && denial.query.atoms.as_slice() == row.1
+        && denial.query.vars == row.2
 }
 
-fn joined(from: Term, to: Term) -> Atom {
-    Atom::Link { role: 3, from, to }
-}
-
-fn list_of<T: Copy + Drop>(alloc: Global, items: &[T]) -> Result<List<T>, AllocError> {
-    Ok(List::of(Vec::from_slice(alloc, items)?))
-}
-
-/// Axioms with the negatives of these rows, and one with none.
-fn axioms_of_each_kind(alloc: Global) -> Result<List<Axiom>, NoMemory> {
-    let mut axioms = List::new(alloc);
-    axioms.push(Axiom::SubClass {
-        sub: A,
-        sup: list_of(alloc, &[Part::Class(1), Part::Not(Basic::SomeOf(P))])?,
-    })?;
-    let operands = [Basic::SomeOf(P), Basic::SomeOf(P_INVERSE), B];
-    axioms.push(Axiom::DisjointClasses(list_of(alloc, &operands)?))?;
-    axioms.push(Axiom::SubRole {
-        sub: P,
-        sup: P_INVERSE,
-    })?;
-    axioms.push(Axiom::Asymmetric(P))?;
-    axioms.push(Axiom::Irreflexive(P_INVERSE))?;
-    Ok(axioms)
-}
-
-/// Whether a denial has no head, these atoms and so many variables.
-fn has(denial: &Denial, atoms: &[Atom], vars: u8) -> bool {
-    denial.query.head.len() == 0
-        && denial.query.atoms.as_slice() == atoms
-        && denial.query.vars == vars
-}
-
-/// Whether a denial is beside an axiom.
-fn is_of(denial: &Denial, axiom: Option<&Axiom>) -> bool {
-    denial.axiom.as_ref() == axiom
-}
-
-/// Whether the first denials are these rows: the index of the axiom, the atoms, and the number of variables.
-fn are_rows(found: &[Denial], axioms: &[Axiom], rows: &[(usize, [Atom; 2], u8)]) -> bool {
-    for (i, (axiom, atoms, vars)) in rows.iter().enumerate() {
-        let Some(denial) = found.get(i) else {
-            return false;
-        };
-        if !is_of(denial, axioms.get(*axiom)) || !has(denial, atoms, *vars) {
+/// Whether the denials are these rows.
+fn are_rows(found: &[Denial], rows: &[Denied], axioms: &[Axiom]) -> bool {
+    for (denial, row) in found.iter().zip(rows) {
+        if !is_row(denial, row, axioms) {
             return false;
         }
     }
-    true
+    found.len() == rows.len()
+}
+
+/// Whether axioms have these denials, with the number of owl:Nothing if it is a name.
+fn are_denied(
+    alloc: Global,
+    axioms: &[Row],
+    nothing: Option<u32>,
+    rows: &[Denied],
+) -> Result<bool, NoMemory> {
+    let axioms = axioms_of(alloc, axioms)?;
+    let found = denials(alloc, axioms.as_slice(), nothing)?;
+    Ok(are_rows(found.as_slice(), rows, axioms.as_slice()))
 }
 
 #[test]
-fn denials_of_each_kind(rt: HostRuntime) -> Result<(), Fail> {
-    let axioms = axioms_of_each_kind(rt.alloc())?;
-    let found = denials(rt.alloc(), axioms.as_slice(), Some(2))?;
-    assert!(rt; found.len() == 7);
-    let rows = [
-        (0, [is(0), joined(X, Y)], 2),
-        (1, [joined(X, Y), joined(Z, X)], 3),
-        (1, [joined(X, Y), is(1)], 2),
-        (1, [joined(Y, X), is(1)], 2),
-        (3, [joined(X, Y), joined(Y, X)], 2),
-    ];
-    assert!(rt; are_rows(found.as_slice(), axioms.as_slice(), &rows));
-    let looped = found.get(5).expect(&rt, "a loop");
-    assert!(rt; is_of(looped, axioms.get(4)) && has(looped, &[joined(X, X)], 1));
-    let nothing = found.get(6).expect(&rt, "owl:Nothing");
-    assert!(rt; is_of(nothing, None) && has(nothing, &[is(2), is(2)], 1));
-    Ok(())
-}
-
-#[test]
-fn nothing_that_is_no_name(rt: HostRuntime) -> Result<(), Fail> {
-    let axioms = axioms_of_each_kind(rt.alloc())?;
-    let found = denials(rt.alloc(), axioms.as_slice(), None)?;
-    assert!(rt; found.len() == 6);
-    let none = denials(rt.alloc(), &[], None)?;
-    assert!(rt; none.len() == 0);
-    Ok(())
+fn denials_of_each_kind(rt: HostRuntime) {
+    assert!(rt; matches!(are_denied(rt.alloc(), AXIOMS, Some(2), DENIED), Ok(true)));
+    assert!(rt; matches!(are_denied(rt.alloc(), AXIOMS, None, &DENIED[..6]), Ok(true)));
+    assert!(rt; matches!(are_denied(rt.alloc(), &[], None, &[]), Ok(true)));
 }

@@ -3,7 +3,6 @@ use dl_hier::{Hier, MAX_PREDICATES, fits};
 use dl_normal::normal;
 use dl_terms::{Base, Basic, NoMemory, Normal, Part, Role, Signature};
 use std::alloc::{AllocError, Global};
-use std::test::Fail;
 
 const P: Role = Role {
     base: Base::Named(10),
@@ -257,14 +256,8 @@ fn wants_all_roles(alloc: Global) -> Result<bool, NoMemory> {
 }
 
 #[test]
-fn hierarchies_agree_with_the_definition(rt: HostRuntime) -> Result<(), Fail> {
-    assert!(rt; agrees_with_the_definition(rt.alloc())?);
-    Ok(())
-}
-
-#[test]
-fn names_have_to_be_in_the_signature(rt: HostRuntime) -> Result<(), Fail> {
+fn hierarchies_agree_with_the_definition(rt: HostRuntime) {
+    assert!(rt; matches!(agrees_with_the_definition(rt.alloc()), Ok(true)));
     assert!(rt; MAX_PREDICATES == 4096);
-    assert!(rt; wants_all_roles(rt.alloc())?);
-    Ok(())
+    assert!(rt; matches!(wants_all_roles(rt.alloc()), Ok(true)));
 }

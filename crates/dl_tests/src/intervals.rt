@@ -1,6 +1,5 @@
 use dl_intervals::{Intervals, NoMemory, ascends};
 use std::alloc::Global;
-use std::test::Fail;
 
 /// The greatest number that may be held.
 const TOP: u32 = (1 << 31) - 1;
@@ -25,9 +24,6 @@ const TABLE: &[(&[u32], &[u32], &[(u32, u32)])] = &[
     (&[TOP], &[TOP - 1], &[(TOP - 1, TOP)]),
 ];
 
-/// Numbers that are tried, beside those from 0 to 39.
-const HIGH: [u32; 3] = [TOP - 1, TOP, TOP + 1];
-
 /// Whether these are the intervals.
 fn are(intervals: &Intervals, wanted: &[(u32, u32)]) -> bool {
     if intervals.len() as usize != wanted.len() {
@@ -46,10 +42,16 @@ fn agrees_at(intervals: &Intervals, left: &[u32], right: &[u32], n: u32) -> bool
     intervals.contains(n) == (left.contains(&n) || right.contains(&n))
 }
 
-/// Whether that is so for all numbers that are tried.
+/// Whether that is so for the numbers from 0 to 39 and three high ones.
 fn agrees(intervals: &Intervals, left: &[u32], right: &[u32]) -> bool {
-    (0..40).all(|n| agrees_at(intervals, left, right, n))
-        && HIGH.iter().all(|n| agrees_at(intervals, left, right, *n))
+    for n in 0..40 {
+        if !agrees_at(intervals, left, right, n) {
+            return false;
+        }
+    }
+    agrees_at(intervals, left, right, TOP - 1)
+        && agrees_at(intervals, left, right, TOP)
+        && agrees_at(intervals, left, right, TOP + 1)
 }
 
 /// Whether the union of two lists has the intervals and the numbers of both.
@@ -79,10 +81,9 @@ fn unite(alloc: Global, rows: &[(&[u32], &[u32], &[(u32, u32)])]) -> Result<bool
 }
 
 #[test]
-fn unions_hold_the_numbers_of_both(rt: HostRuntime) -> Result<(), Fail> {
-    assert!(rt; unite(rt.alloc(), TABLE)?);
+fn unions_hold_the_numbers_of_both(rt: HostRuntime) {
+    assert!(rt; matches!(unite(rt.alloc(), TABLE), Ok(true)));
     assert!(rt; !ascends(&[4, 4]));
     assert!(rt; !ascends(&[5, 4]));
     assert!(rt; !ascends(&[TOP + 1]));
-    Ok(())
 }

@@ -35,6 +35,8 @@ mod owl;
 #[cfg(test)]
 mod owl_faults;
 #[cfg(test)]
+mod plain_join;
+#[cfg(test)]
 mod query;
 #[cfg(test)]
 mod reach;

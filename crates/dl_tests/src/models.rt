@@ -1,7 +1,8 @@
+// Finite interpretations: what they accept and hold, worked out by hand.
+use crate::axioms::{Row, axiom_of, list_of};
 use dl_models::Interp;
-use dl_terms::{Atom, Axiom, Base, Basic, Fact, List, NoMemory, Part, Query, Role, Term};
+use dl_terms::{Atom, Base, Basic, Fact, NoMemory, Part, Query, Role, Term};
 use std::alloc::{AllocError, Global};
-use std::test::Fail;
 
 const A: Basic = Basic::Class(0);
 
@@ -40,196 +41,286 @@ const NONE: Role = Role {
     inverse: false,
 };
 
-fn list_of<T: Copy + Drop>(alloc: Global, items: &[T]) -> Result<List<T>, AllocError> {
-    Ok(List::of(Vec::from_slice(alloc, items)?))
-}
+const X: Term = Term::Var(0);
 
-/// The interpretation of these parts.
-fn interpretation(
-    alloc: Global,
-    names: &[(u32, u32)],
+const Y: Term = Term::Var(1);
+
+/// The parts of an interpretation: its size, elements of names, members and links.
+struct Parts {
     size: u32,
-    classes: &[(u32, u32)],
-    links: &[(u32, u32, u32)],
-) -> Result<Option<Interp>, AllocError> {
-    let names = list_of(alloc, names)?;
-    let classes = list_of(alloc, classes)?;
-    let links = list_of(alloc, links)?;
-    Ok(Interp::new(size, names, classes, links))
+    names: &'static [(u32, u32)],
+    classes: &'static [(u32, u32)],
+    links: &'static [(u32, u32, u32)],
 }
 
-/// Two elements with the names 10 and 11: 0 is an A with the P-neighbour 1, which is a B; R is P turned, and Q leads
-/// from 0 to itself. Nothing is a C.
-fn two_elements(alloc: Global) -> Result<Option<Interp>, AllocError> {
-    let links = [(3, 0, 1), (4, 0, 0), (5, 1, 0)];
-    interpretation(alloc, &[(10, 0), (11, 1)], 2, &[(0, 0), (1, 1)], &links)
+/// A query over two variables, by head and atoms; a tuple; and whether it holds of the tuple.
+type Held = (&'static [u8], &'static [Atom], &'static [u32], bool);
+
+/// An interpretation, and what it accepts and holds.
+struct Case {
+    parts: Parts,
+    axioms: &'static [(Row, bool)],
+    facts: &'static [(Fact, bool)],
+    queries: &'static [Held],
 }
 
-/// Whether a basic concept is accepted to be in exactly these parts of some.
-fn are_within(
-    alloc: Global,
-    model: &Interp,
-    rows: &[(Basic, Part, bool)],
-) -> Result<bool, AllocError> {
-    for (sub, part, expected) in rows {
-        let sup = list_of(alloc, &[*part])?;
-        if model.accepts_axiom(&Axiom::SubClass { sub: *sub, sup }) != *expected {
-            return Ok(false);
-        }
-    }
-    Ok(true)
-}
-
-const INCLUSIONS: [(Basic, Part, bool); 13] = [
-    (A, Part::Thing, true),
-    (A, Part::Class(0), true),
-    (A, Part::Class(1), false),
-    (A, Part::Any(P), true),
-    (B, Part::Any(P), false),
-    (B, Part::Any(P_INVERSE), true),
-    (A, Part::Fill(P, 1), true),
-    (A, Part::Fill(P, 0), false),
-    (B, Part::Fill(P_INVERSE, 0), true),
-    (A, Part::Not(B), true),
-    (A, Part::Not(Basic::SomeOf(P)), false),
-    (A, Part::Not(Basic::SomeOf(P_INVERSE)), true),
-    (Basic::SomeOf(P), Part::Class(1), false),
+const AXIOMS: &[(Row, bool)] = &[
+    // Inclusions of classes.
+    (Row::SubClass(A, &[Part::Thing]), true),
+    (Row::SubClass(A, &[Part::Class(0)]), true),
+    (Row::SubClass(A, &[Part::Class(1)]), false),
+    (Row::SubClass(A, &[Part::Any(P)]), true),
+    (Row::SubClass(B, &[Part::Any(P)]), false),
+    (Row::SubClass(B, &[Part::Any(P_INVERSE)]), true),
+    (Row::SubClass(A, &[Part::Fill(P, 1)]), true),
+    (Row::SubClass(A, &[Part::Fill(P, 0)]), false),
+    (Row::SubClass(B, &[Part::Fill(P_INVERSE, 0)]), true),
+    (Row::SubClass(A, &[Part::Not(B)]), true),
+    (Row::SubClass(A, &[Part::Not(Basic::SomeOf(P))]), false),
+    (
+        Row::SubClass(A, &[Part::Not(Basic::SomeOf(P_INVERSE))]),
+        true,
+    ),
+    (Row::SubClass(Basic::SomeOf(P), &[Part::Class(1)]), false),
+    // Equivalence and disjointness of basic concepts.
+    (
+        Row::EquivalentClasses(&[A, Basic::SomeOf(P), Basic::SomeOf(Q)]),
+        true,
+    ),
+    (
+        Row::DisjointClasses(&[A, Basic::SomeOf(P), Basic::SomeOf(Q)]),
+        false,
+    ),
+    (Row::EquivalentClasses(&[C, A]), false),
+    (Row::DisjointClasses(&[C, A]), true),
+    (Row::EquivalentClasses(&[A, B]), false),
+    (Row::DisjointClasses(&[A, B]), true),
+    (Row::EquivalentClasses(&[A, B, Basic::SomeOf(P)]), false),
+    (Row::DisjointClasses(&[A, B, Basic::SomeOf(P)]), false),
+    (Row::EquivalentClasses(&[A, A]), true),
+    (Row::DisjointClasses(&[A, A]), false),
+    (Row::EquivalentClasses(&[C, C]), true),
+    (Row::DisjointClasses(&[C, C]), true),
+    // Inclusion, equivalence and disjointness of two roles, and whether they are inverse.
+    (Row::SubRole(P, R), false),
+    (Row::EquivalentRoles(&[P, R]), false),
+    (Row::DisjointRoles(&[P, R]), true),
+    (Row::InverseRoles(P, R), true),
+    (Row::SubRole(P_INVERSE, R), true),
+    (Row::EquivalentRoles(&[P_INVERSE, R]), true),
+    (Row::DisjointRoles(&[P_INVERSE, R]), false),
+    (Row::InverseRoles(P_INVERSE, R), false),
+    (Row::SubRole(P, R_INVERSE), true),
+    (Row::EquivalentRoles(&[P, R_INVERSE]), true),
+    (Row::DisjointRoles(&[P, R_INVERSE]), false),
+    (Row::InverseRoles(P, R_INVERSE), false),
+    (Row::SubRole(P, Q), false),
+    (Row::EquivalentRoles(&[P, Q]), false),
+    (Row::DisjointRoles(&[P, Q]), true),
+    (Row::InverseRoles(P, Q), false),
+    (Row::SubRole(Q, Q), true),
+    (Row::EquivalentRoles(&[Q, Q]), true),
+    (Row::DisjointRoles(&[Q, Q]), false),
+    (Row::InverseRoles(Q, Q), true),
+    (Row::SubRole(NONE, P), true),
+    (Row::EquivalentRoles(&[NONE, P]), false),
+    (Row::DisjointRoles(&[NONE, P]), true),
+    (Row::InverseRoles(NONE, P), false),
+    // Domains and ranges.
+    (Row::Domain(P, &[Part::Thing, Part::Class(0)]), true),
+    (Row::Range(P, &[Part::Thing, Part::Class(0)]), false),
+    (Row::Domain(P, &[Part::Thing, Part::Class(1)]), false),
+    (Row::Range(P, &[Part::Thing, Part::Class(1)]), true),
+    (Row::Domain(R, &[Part::Thing, Part::Class(0)]), false),
+    (Row::Range(R, &[Part::Thing, Part::Class(0)]), true),
+    // Kinds of one role.
+    (Row::Symmetric(P), false),
+    (Row::Asymmetric(P), true),
+    (Row::Irreflexive(P), true),
+    (Row::Symmetric(Q), true),
+    (Row::Asymmetric(Q), false),
+    (Row::Irreflexive(Q), false),
+    (Row::Symmetric(NONE), true),
+    (Row::Asymmetric(NONE), true),
+    (Row::Irreflexive(NONE), true),
 ];
 
-#[test]
-fn inclusions_of_classes(rt: HostRuntime) -> Result<(), Fail> {
-    let model = two_elements(rt.alloc())?.expect(&rt, "parts");
-    assert!(rt; are_within(rt.alloc(), &model, &INCLUSIONS)?);
-    let none = interpretation(rt.alloc(), &[], 1, &[], &[])?.expect(&rt, "parts");
-    assert!(rt; are_within(rt.alloc(), &none, &[(A, Part::Any(P), true)])?);
-    let one = interpretation(rt.alloc(), &[], 1, &[(0, 0)], &[])?.expect(&rt, "parts");
-    assert!(rt; are_within(rt.alloc(), &one, &[(A, Part::Any(P), false)])?);
-    Ok(())
-}
-
-/// Whether equivalences of basic concepts, and disjointness, are accepted as these rows say.
-fn are_sets(
-    alloc: Global,
-    model: &Interp,
-    rows: &[(&[Basic], bool, bool)],
-) -> Result<bool, AllocError> {
-    for (operands, same, apart) in rows {
-        let equivalent = Axiom::EquivalentClasses(list_of(alloc, operands)?);
-        let disjoint = Axiom::DisjointClasses(list_of(alloc, operands)?);
-        if model.accepts_axiom(&equivalent) != *same || model.accepts_axiom(&disjoint) != *apart {
-            return Ok(false);
-        }
-    }
-    Ok(true)
-}
-
-#[test]
-fn equal_and_disjoint_classes(rt: HostRuntime) -> Result<(), Fail> {
-    let model = two_elements(rt.alloc())?.expect(&rt, "parts");
-    let rows: [(&[Basic], bool, bool); 6] = [
-        (&[A, Basic::SomeOf(P), Basic::SomeOf(Q)], true, false),
-        (&[C, A], false, true),
-        (&[A, B], false, true),
-        (&[A, B, Basic::SomeOf(P)], false, false),
-        (&[A, A], true, false),
-        (&[C, C], true, true),
-    ];
-    assert!(rt; are_sets(rt.alloc(), &model, &rows)?);
-    Ok(())
-}
-
-/// Whether inclusions of two roles, their equivalence, their disjointness and their being inverse are accepted as
-/// these rows say.
-fn are_pairs(
-    alloc: Global,
-    model: &Interp,
-    rows: &[(Role, Role, bool, bool, bool, bool)],
-) -> Result<bool, AllocError> {
-    for (one, two, within, same, apart, turned) in rows {
-        let sub = Axiom::SubRole {
-            sub: *one,
-            sup: *two,
-        };
-        let equivalent = Axiom::EquivalentRoles(list_of(alloc, &[*one, *two])?);
-        let disjoint = Axiom::DisjointRoles(list_of(alloc, &[*one, *two])?);
-        let inverse = Axiom::InverseRoles {
-            one: *one,
-            two: *two,
-        };
-        if model.accepts_axiom(&sub) != *within
-            || model.accepts_axiom(&equivalent) != *same
-            || model.accepts_axiom(&disjoint) != *apart
-            || model.accepts_axiom(&inverse) != *turned
-        {
-            return Ok(false);
-        }
-    }
-    Ok(true)
-}
-
-const PAIRS: [(Role, Role, bool, bool, bool, bool); 6] = [
-    (P, R, false, false, true, true),
-    (P_INVERSE, R, true, true, false, false),
-    (P, R_INVERSE, true, true, false, false),
-    (P, Q, false, false, true, false),
-    (Q, Q, true, true, false, true),
-    (NONE, P, true, false, true, false),
+const FACTS: &[(Fact, bool)] = &[
+    (Fact::Is { class: 0, who: 10 }, true),
+    (Fact::Is { class: 0, who: 11 }, false),
+    (Fact::Is { class: 0, who: 12 }, false),
+    (P_10_11, true),
+    (P_11_10, false),
+    (P_10_12, false),
 ];
 
-#[test]
-fn axioms_on_two_roles(rt: HostRuntime) -> Result<(), Fail> {
-    let model = two_elements(rt.alloc())?.expect(&rt, "parts");
-    assert!(rt; are_pairs(rt.alloc(), &model, &PAIRS)?);
-    Ok(())
+const P_10_11: Fact = Fact::Link {
+    role: 3,
+    from: 10,
+    to: 11,
+};
+
+const P_11_10: Fact = Fact::Link {
+    role: 3,
+    from: 11,
+    to: 10,
+};
+
+const P_10_12: Fact = Fact::Link {
+    role: 3,
+    from: 10,
+    to: 12,
+};
+
+const P_X_Y: Atom = Atom::Link {
+    role: 3,
+    from: X,
+    to: Y,
+};
+
+const P_X_X: Atom = Atom::Link {
+    role: 3,
+    from: X,
+    to: X,
+};
+
+const Q_X_X: Atom = Atom::Link {
+    role: 4,
+    from: X,
+    to: X,
+};
+
+const P_10_Y: Atom = Atom::Link {
+    role: 3,
+    from: Term::Name(10),
+    to: Y,
+};
+
+const P_11_Y: Atom = Atom::Link {
+    role: 3,
+    from: Term::Name(11),
+    to: Y,
+};
+
+const A_Y: Atom = Atom::Is { class: 0, at: Y };
+
+const B_Y: Atom = Atom::Is { class: 1, at: Y };
+
+const B_X: Atom = Atom::Is { class: 1, at: X };
+
+const QUERIES: &[Held] = &[
+    (&[], &[P_X_Y], &[], true),
+    (&[], &[P_X_X], &[], false),
+    (&[], &[Q_X_X], &[], true),
+    (&[], &[P_10_Y], &[], true),
+    (&[], &[P_11_Y], &[], false),
+    (&[], &[P_X_Y, B_Y], &[], true),
+    (&[], &[P_X_Y, A_Y], &[], false),
+    (&[0, 1], &[P_X_Y], &[10, 11], true),
+    (&[0, 1], &[P_X_Y], &[11, 10], false),
+    (&[0, 0], &[P_X_Y], &[10, 10], true),
+    (&[0, 0], &[P_X_Y], &[10, 11], false),
+    (&[0], &[P_X_Y], &[12], false),
+];
+
+const CASES: &[Case] = &[
+    // Two elements with the names 10 and 11: 0 is an A with the P-neighbour 1, which is a B; R is P turned, and Q leads
+    // from 0 to itself. Nothing is a C.
+    Case {
+        parts: Parts {
+            size: 2,
+            names: &[(10, 0), (11, 1)],
+            classes: &[(0, 0), (1, 1)],
+            links: &[(3, 0, 1), (4, 0, 0), (5, 1, 0)],
+        },
+        axioms: AXIOMS,
+        facts: FACTS,
+        queries: QUERIES,
+    },
+    // One element, in no class and in one.
+    Case {
+        parts: Parts {
+            size: 1,
+            names: &[],
+            classes: &[],
+            links: &[],
+        },
+        axioms: &[(Row::SubClass(A, &[Part::Any(P)]), true)],
+        facts: &[],
+        queries: &[],
+    },
+    Case {
+        parts: Parts {
+            size: 1,
+            names: &[],
+            classes: &[(0, 0)],
+            links: &[],
+        },
+        axioms: &[(Row::SubClass(A, &[Part::Any(P)]), false)],
+        facts: &[],
+        queries: &[],
+    },
+    // A member of a class and of one above it.
+    Case {
+        parts: Parts {
+            size: 1,
+            names: &[(10, 0)],
+            classes: &[(0, 0), (1, 0)],
+            links: &[],
+        },
+        axioms: &[(Row::SubClass(A, &[Part::Class(1)]), true)],
+        facts: &[(Fact::Is { class: 0, who: 10 }, true)],
+        queries: &[(&[0], &[B_X], &[10], true)],
+    },
+];
+
+/// Parts of none: names have to ascend, and elements to be below the size, which is not 0.
+const NONE_OF: &[Parts] = &[
+    Parts {
+        size: 2,
+        names: &[(11, 0), (10, 1)],
+        classes: &[],
+        links: &[],
+    },
+    Parts {
+        size: 2,
+        names: &[(10, 0), (10, 0)],
+        classes: &[],
+        links: &[],
+    },
+    Parts {
+        size: 2,
+        names: &[],
+        classes: &[(0, 2)],
+        links: &[],
+    },
+    Parts {
+        size: 0,
+        names: &[],
+        classes: &[],
+        links: &[],
+    },
+];
+
+/// The interpretation of these parts, if they are those of one.
+fn interpretation(alloc: Global, parts: &Parts) -> Result<Option<Interp>, AllocError> {
+    let names = list_of(alloc, parts.names)?;
+    let classes = list_of(alloc, parts.classes)?;
+    let links = list_of(alloc, parts.links)?;
+    Ok(Interp::new(parts.size, names, classes, links))
 }
 
-/// Whether a domain and a range in a class are accepted as these rows say.
-fn are_ends(
-    alloc: Global,
-    model: &Interp,
-    rows: &[(Role, u32, bool, bool)],
-) -> Result<bool, AllocError> {
-    for (role, class, domain, range) in rows {
-        let sup = list_of(alloc, &[Part::Thing, Part::Class(*class)])?;
-        let first = Axiom::Domain { role: *role, sup };
-        let sup = list_of(alloc, &[Part::Thing, Part::Class(*class)])?;
-        let second = Axiom::Range { role: *role, sup };
-        if model.accepts_axiom(&first) != *domain || model.accepts_axiom(&second) != *range {
-            return Ok(false);
-        }
-    }
-    Ok(true)
-}
-
-/// Whether a role is accepted to be symmetric, asymmetric and irreflexive as these rows say.
-fn are_kinds(model: &Interp, rows: &[(Role, bool, bool, bool)]) -> bool {
-    for (role, symmetric, asymmetric, irreflexive) in rows {
-        if model.accepts_axiom(&Axiom::Symmetric(*role)) != *symmetric
-            || model.accepts_axiom(&Axiom::Asymmetric(*role)) != *asymmetric
-            || model.accepts_axiom(&Axiom::Irreflexive(*role)) != *irreflexive
-        {
+/// Whether axioms are accepted as these rows say.
+fn are_axioms(alloc: Global, model: &Interp, rows: &[(Row, bool)]) -> bool {
+    for (row, expected) in rows {
+        let Ok(stated) = axiom_of(alloc, row) else {
+            return false;
+        };
+        if model.accepts_axiom(&stated) != *expected {
             return false;
         }
     }
     true
-}
-
-#[test]
-fn axioms_on_one_role(rt: HostRuntime) -> Result<(), Fail> {
-    let model = two_elements(rt.alloc())?.expect(&rt, "parts");
-    let ends = [
-        (P, 0, true, false),
-        (P, 1, false, true),
-        (R, 0, false, true),
-    ];
-    assert!(rt; are_ends(rt.alloc(), &model, &ends)?);
-    let kinds = [
-        (P, false, true, true),
-        (Q, true, false, false),
-        (NONE, true, true, true),
-    ];
-    assert!(rt; are_kinds(&model, &kinds));
-    Ok(())
 }
 
 /// Whether facts are accepted as these rows say.
@@ -242,87 +333,57 @@ fn are_facts(model: &Interp, rows: &[(Fact, bool)]) -> bool {
     true
 }
 
-fn link(role: u32, from: u32, to: u32) -> Fact {
-    Fact::Link { role, from, to }
+/// Whether the query of a row holds of its tuple.
+fn holds(alloc: Global, model: &Interp, row: &Held) -> Result<bool, NoMemory> {
+    let query = Query {
+        head: list_of(alloc, row.0)?,
+        atoms: list_of(alloc, row.1)?,
+        vars: 2,
+    };
+    model.holds(alloc, &query, row.2)
 }
 
-#[test]
-fn facts_of_names(rt: HostRuntime) -> Result<(), Fail> {
-    let model = two_elements(rt.alloc())?.expect(&rt, "parts");
-    let rows = [
-        (Fact::Is { class: 0, who: 10 }, true),
-        (Fact::Is { class: 0, who: 11 }, false),
-        (Fact::Is { class: 0, who: 12 }, false),
-        (link(3, 10, 11), true),
-        (link(3, 11, 10), false),
-        (link(3, 10, 12), false),
-    ];
-    assert!(rt; are_facts(&model, &rows));
-    // The names have to ascend, and elements to be below the size, which is not 0.
-    assert!(rt; interpretation(rt.alloc(), &[(11, 0), (10, 1)], 2, &[], &[])?.is_none());
-    assert!(rt; interpretation(rt.alloc(), &[(10, 0), (10, 0)], 2, &[], &[])?.is_none());
-    assert!(rt; interpretation(rt.alloc(), &[], 2, &[(0, 2)], &[])?.is_none());
-    assert!(rt; interpretation(rt.alloc(), &[], 0, &[], &[])?.is_none());
-    Ok(())
-}
-
-const X: Term = Term::Var(0);
-
-const Y: Term = Term::Var(1);
-
-fn joined(role: u32, from: Term, to: Term) -> Atom {
-    Atom::Link { role, from, to }
-}
-
-/// Whether queries over two variables hold of tuples as these rows say.
-fn are_held(
-    alloc: Global,
-    model: &Interp,
-    rows: &[(&[u8], &[Atom], &[u32], bool)],
-) -> Result<bool, NoMemory> {
-    for (head, atoms, tuple, expected) in rows {
-        let query = Query {
-            head: list_of(alloc, head)?,
-            atoms: list_of(alloc, atoms)?,
-            vars: 2,
+/// Whether queries hold as these rows say.
+fn are_held(alloc: Global, model: &Interp, rows: &[Held]) -> bool {
+    for row in rows {
+        let Ok(found) = holds(alloc, model, row) else {
+            return false;
         };
-        if model.holds(alloc, &query, tuple)? != *expected {
-            return Ok(false);
+        if found != row.3 {
+            return false;
         }
     }
-    Ok(true)
+    true
+}
+
+/// Whether an interpretation is as each case says.
+fn agree(alloc: Global, cases: &[Case]) -> bool {
+    for case in cases {
+        let Ok(Some(model)) = interpretation(alloc, &case.parts) else {
+            return false;
+        };
+        if !are_axioms(alloc, &model, case.axioms)
+            || !are_facts(&model, case.facts)
+            || !are_held(alloc, &model, case.queries)
+        {
+            return false;
+        }
+    }
+    true
+}
+
+/// Whether none of these is an interpretation.
+fn are_none(alloc: Global, rows: &[Parts]) -> bool {
+    for parts in rows {
+        let Ok(None) = interpretation(alloc, parts) else {
+            return false;
+        };
+    }
+    true
 }
 
 #[test]
-fn queries_of_tuples(rt: HostRuntime) -> Result<(), Fail> {
-    let model = two_elements(rt.alloc())?.expect(&rt, "parts");
-    let p = joined(3, X, Y);
-    let rows: [(&[u8], &[Atom], &[u32], bool); 12] = [
-        (&[], &[p], &[], true),
-        (&[], &[joined(3, X, X)], &[], false),
-        (&[], &[joined(4, X, X)], &[], true),
-        (&[], &[joined(3, Term::Name(10), Y)], &[], true),
-        (&[], &[joined(3, Term::Name(11), Y)], &[], false),
-        (&[], &[p, Atom::Is { class: 1, at: Y }], &[], true),
-        (&[], &[p, Atom::Is { class: 0, at: Y }], &[], false),
-        (&[0, 1], &[p], &[10, 11], true),
-        (&[0, 1], &[p], &[11, 10], false),
-        (&[0, 0], &[p], &[10, 10], true),
-        (&[0, 0], &[p], &[10, 11], false),
-        (&[0], &[p], &[12], false),
-    ];
-    assert!(rt; are_held(rt.alloc(), &model, &rows)?);
-    Ok(())
-}
-
-#[test]
-fn query_of_a_subclass(rt: HostRuntime) -> Result<(), Fail> {
-    let one = interpretation(rt.alloc(), &[(10, 0)], 1, &[(0, 0), (1, 0)], &[])?;
-    let one = one.expect(&rt, "parts");
-    let is_b: [Atom; 1] = [Atom::Is { class: 1, at: X }];
-    let rows: [(&[u8], &[Atom], &[u32], bool); 1] = [(&[0], &is_b, &[10], true)];
-    assert!(rt; are_within(rt.alloc(), &one, &[(A, Part::Class(1), true)])?);
-    assert!(rt; are_facts(&one, &[(Fact::Is { class: 0, who: 10 }, true)]));
-    assert!(rt; are_held(rt.alloc(), &one, &rows)?);
-    Ok(())
+fn interpretations_accept_and_hold(rt: HostRuntime) {
+    assert!(rt; agree(rt.alloc(), CASES));
+    assert!(rt; are_none(rt.alloc(), NONE_OF));
 }

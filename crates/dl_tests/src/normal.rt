@@ -2,7 +2,6 @@ use crate::axioms::{Row, axioms_of};
 use dl_normal::{fillers, fillers_are_of_parts, normal, weight};
 use dl_terms::{Base, Basic, Negative, NoMemory, Part, Role};
 use std::alloc::Global;
-use std::test::Fail;
 
 const A: Basic = Basic::Class(0);
 
@@ -131,9 +130,8 @@ fn has_rows(alloc: Global) -> Result<bool, NoMemory> {
 }
 
 #[test]
-fn rows_of_each_kind(rt: HostRuntime) -> Result<(), Fail> {
-    assert!(rt; has_rows(rt.alloc())?);
-    Ok(())
+fn rows_of_each_kind(rt: HostRuntime) {
+    assert!(rt; matches!(has_rows(rt.alloc()), Ok(true)));
 }
 
 /// Whether the axioms of some rows weigh so much and have so many fillers.
@@ -143,9 +141,8 @@ fn weighs(alloc: Global, rows: &[Row], wanted: u64, filled: u64) -> Result<bool,
 }
 
 #[test]
-fn weights_and_fillers(rt: HostRuntime) -> Result<(), Fail> {
+fn weights_and_fillers(rt: HostRuntime) {
     fillers_are_of_parts();
-    assert!(rt; weighs(rt.alloc(), AXIOMS, 29, 1)?);
-    assert!(rt; weighs(rt.alloc(), THING, 1, 0)?);
-    Ok(())
+    assert!(rt; matches!(weighs(rt.alloc(), AXIOMS, 29, 1), Ok(true)));
+    assert!(rt; matches!(weighs(rt.alloc(), THING, 1, 0), Ok(true)));
 }

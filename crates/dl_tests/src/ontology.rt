@@ -1,8 +1,9 @@
+// Ontologies and axioms that are read, with their values by hand.
+use crate::axioms::{Row, axiom_of};
 use dl_names::NameSet;
 use dl_owl::{Document, read_axiom, read_ontology};
-use dl_terms::{Axiom, Base, Basic, Fact, List, NoMemory, Part, Role};
+use dl_terms::{Base, Basic, Fact, Part, Role};
 use std::alloc::{AllocError, Global};
-use std::test::Fail;
 
 /// The places of the classes, of the role and of the fact of the ontology below.
 const CLASSES: &[u32] = &[0, 1];
@@ -89,6 +90,12 @@ const INVERSE: Role = Role {
     inverse: true,
 };
 
+/// The same of the first name.
+const FIRST_INVERSE: Role = Role {
+    base: Base::Named(0),
+    inverse: true,
+};
+
 /// An ontology as an editor writes it.
 const UNIVERSITY: &str = "Prefix(:=<http://e.org/u#>)
 Prefix(owl:=<http://www.w3.org/2002/07/owl#>)
@@ -146,39 +153,13 @@ fn are_counted(alloc: Global, rows: &[Counted]) -> Result<bool, AllocError> {
     Ok(true)
 }
 
-/// The parts as a list.
-fn parts_of(alloc: Global, parts: &[Part]) -> Result<List<Part>, NoMemory> {
-    let mut list = List::new(alloc);
-    for part in parts {
-        list.push(*part)?;
-    }
-    Ok(list)
-}
-
-/// Whether the text is this axiom.
-fn is_axiom(alloc: Global, text: &str, stated: &Axiom) -> bool {
-    let mut names = NameSet::new(alloc);
-    match read_axiom(alloc, text.as_bytes(), &mut names) {
-        Ok(document) => document.axioms.get(0) == Some(stated) && holds(&document, [1, 0, 0, 0]),
-        Err(_) => false,
-    }
-}
-
-/// Whether the text is this fact.
-fn is_fact(alloc: Global, text: &str, stated: Fact) -> bool {
-    let mut names = NameSet::new(alloc);
-    match read_axiom(alloc, text.as_bytes(), &mut names) {
-        Ok(document) => document.facts.get(0) == Some(&stated) && holds(&document, [0, 1, 0, 0]),
-        Err(_) => false,
-    }
-}
-
-/// Nested parts are one list of parts.
-fn parts_are_flattened(alloc: Global) -> Result<bool, NoMemory> {
-    let stated = Axiom::SubClass {
-        sub: Basic::Class(0),
-        sup: parts_of(
-            alloc,
+/// Texts and the axioms that they are: nested parts are one list of parts, and a domain is no range.
+const STATED: &[(&str, Row)] = &[
+    (
+        "SubClassOf(<A> ObjectIntersectionOf(<B> ObjectIntersectionOf(ObjectSomeValuesFrom(ObjectInverseOf(<P>) <A>) \
+         ObjectComplementOf(ObjectSomeValuesFrom(<P> owl:Thing)) ObjectSomeValuesFrom(<P> owl:Thing)) owl:Thing))",
+        Row::SubClass(
+            Basic::Class(0),
             &[
                 Part::Class(1),
                 Part::Fill(INVERSE, 0),
@@ -186,50 +167,63 @@ fn parts_are_flattened(alloc: Global) -> Result<bool, NoMemory> {
                 Part::Any(P),
                 Part::Thing,
             ],
-        )?,
-    };
-    Ok(is_axiom(
-        alloc,
-        "SubClassOf(<A> ObjectIntersectionOf(<B> ObjectIntersectionOf(ObjectSomeValuesFrom(ObjectInverseOf(<P>) <A>) ObjectComplementOf(ObjectSomeValuesFrom(<P> owl:Thing)) ObjectSomeValuesFrom(<P> owl:Thing)) owl:Thing))",
-        &stated,
-    ))
-}
-
-/// A domain is no range.
-fn domains_are_read(alloc: Global) -> Result<bool, NoMemory> {
-    let stated = Axiom::Domain {
-        role: Role {
-            base: Base::Named(0),
-            inverse: true,
-        },
-        sup: parts_of(alloc, &[Part::Class(1)])?,
-    };
-    Ok(is_axiom(
-        alloc,
+        ),
+    ),
+    (
         "ObjectPropertyDomain(ObjectInverseOf(<P>) <A>)",
-        &stated,
-    ))
-}
+        Row::Domain(FIRST_INVERSE, &[Part::Class(1)]),
+    ),
+];
 
-/// The fact of an inverse is turned.
-fn links_are_turned(alloc: Global) -> bool {
-    is_fact(
-        alloc,
+/// Texts and the facts that they are: the fact of an inverse is turned.
+const LINKS: &[(&str, Fact)] = &[
+    (
         "ObjectPropertyAssertion(ObjectInverseOf(<P>) <a> <b>)",
         Fact::Link {
             role: 0,
             from: 2,
             to: 1,
         },
-    ) && is_fact(
-        alloc,
+    ),
+    (
         "ObjectPropertyAssertion(<P> <a> <b>)",
         Fact::Link {
             role: 0,
             from: 1,
             to: 2,
         },
-    )
+    ),
+];
+
+/// Whether each text is its axiom.
+fn are_axioms(alloc: Global, rows: &[(&str, Row)]) -> bool {
+    for (text, row) in rows {
+        let Ok(stated) = axiom_of(alloc, row) else {
+            return false;
+        };
+        let mut names = NameSet::new(alloc);
+        let Ok(document) = read_axiom(alloc, text.as_bytes(), &mut names) else {
+            return false;
+        };
+        if document.axioms.get(0) != Some(&stated) || !holds(&document, [1, 0, 0, 0]) {
+            return false;
+        }
+    }
+    true
+}
+
+/// Whether each text is its fact.
+fn are_facts(alloc: Global, rows: &[(&str, Fact)]) -> bool {
+    for (text, stated) in rows {
+        let mut names = NameSet::new(alloc);
+        let Ok(document) = read_axiom(alloc, text.as_bytes(), &mut names) else {
+            return false;
+        };
+        if document.facts.get(0) != Some(stated) || !holds(&document, [0, 1, 0, 0]) {
+            return false;
+        }
+    }
+    true
 }
 
 /// Whether the ontology has its classes, its role twice, and its fact, by the places of their names.
@@ -274,19 +268,16 @@ fn is_flattened(alloc: Global, count: u32) -> Result<bool, AllocError> {
 }
 
 #[test]
-fn axioms_are_read(rt: HostRuntime) -> Result<(), Fail> {
-    assert!(rt; are_counted(rt.alloc(), RIGHT)?);
-    Ok(())
+fn axioms_are_read(rt: HostRuntime) {
+    assert!(rt; matches!(are_counted(rt.alloc(), RIGHT), Ok(true)));
 }
 
 #[test]
-fn values_are_read(rt: HostRuntime) -> Result<(), Fail> {
-    assert!(rt; parts_are_flattened(rt.alloc())?);
-    assert!(rt; domains_are_read(rt.alloc())?);
-    assert!(rt; links_are_turned(rt.alloc()));
-    assert!(rt; is_flattened(rt.alloc(), 63)?);
-    assert!(rt; !is_flattened(rt.alloc(), 64)?);
-    Ok(())
+fn values_are_read(rt: HostRuntime) {
+    assert!(rt; are_axioms(rt.alloc(), STATED));
+    assert!(rt; are_facts(rt.alloc(), LINKS));
+    assert!(rt; matches!(is_flattened(rt.alloc(), 63), Ok(true)));
+    assert!(rt; matches!(is_flattened(rt.alloc(), 64), Ok(false)));
 }
 
 #[test]

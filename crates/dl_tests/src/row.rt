@@ -64,10 +64,9 @@ fn are_seen(table: &[(u32, u32, u32, bool)]) -> bool {
 }
 
 #[test]
-fn rows_are_visible_from_first_to_before_last(rt: HostRuntime) -> Result<(), Fail> {
+fn rows_are_visible_from_first_to_before_last(rt: HostRuntime) {
     rows_are_ordered();
     assert!(rt; are_seen(&SEEN));
-    Ok(())
 }
 
 /// Whether a list of places ascends, and all are below a bound.
@@ -198,9 +197,8 @@ const CHANGES: [(&[Row], &[u64], &[Row], &[Row]); 9] = [
 ];
 
 #[test]
-fn changes_leave_rows_in_order(rt: HostRuntime) -> Result<(), Fail> {
-    assert!(rt; all_leave(rt.alloc(), &CHANGES)?);
-    Ok(())
+fn changes_leave_rows_in_order(rt: HostRuntime) {
+    assert!(rt; matches!(all_leave(rt.alloc(), &CHANGES), Ok(true)));
 }
 
 const KEPT: [Row; 9] = [
@@ -245,12 +243,17 @@ fn kept(alloc: Global) -> Result<Option<PlainShard>, NoMemory> {
     changed(alloc, &PlainShard::empty(alloc), &[], &KEPT)
 }
 
+/// Whether the kept rows are there, and are found.
+fn keeps_and_finds(alloc: Global) -> bool {
+    match kept(alloc) {
+        Ok(Some(shard)) => has(&shard, &KEPT) && are_found(&shard, &FOUND),
+        _ => false,
+    }
+}
+
 #[test]
-fn first_open_rows_are_found(rt: HostRuntime) -> Result<(), Fail> {
-    let shard = kept(rt.alloc())?.ok_or("rows")?;
-    assert!(rt; has(&shard, &KEPT));
-    assert!(rt; are_found(&shard, &FOUND));
-    Ok(())
+fn first_open_rows_are_found(rt: HostRuntime) {
+    assert!(rt; keeps_and_finds(rt.alloc()));
 }
 
 /// Epoch, kind, numbers and version of a scan, and the pairs that it gives.

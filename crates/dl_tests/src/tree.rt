@@ -1,11 +1,11 @@
 // Tables of folds: rows found by hand from the definition of tree witnesses.
+use crate::axioms::list_of;
 use dl_hier::{Hier, fits};
 use dl_names::NameSet;
 use dl_query::read_query;
 use dl_terms::{Base, Basic, List, NoMemory, Normal, Role, Signature};
 use dl_tree::TreeTable;
 use std::alloc::{AllocError, Global};
-use std::test::Fail;
 
 const P: Role = Role {
     base: Base::Named(0),
@@ -97,10 +97,6 @@ fn rows_of(alloc: Global) -> Result<Normal, NoMemory> {
     })
 }
 
-fn list_of(alloc: Global, items: &[u32]) -> Result<List<u32>, AllocError> {
-    Ok(List::of(Vec::from_slice(alloc, items)?))
-}
-
 fn signature_of(alloc: Global) -> Result<Signature, AllocError> {
     Ok(Signature {
         classes: list_of(alloc, &[2])?,
@@ -174,9 +170,15 @@ fn all_are(alloc: Global, hier: &Hier, rows: &[Row]) -> bool {
     true
 }
 
+/// Whether the hierarchy fits, and the queries have their tables over it.
+fn are_tables(alloc: Global, rows: &[Row]) -> bool {
+    match hier_of(alloc) {
+        Ok(Some(hier)) => all_are(alloc, &hier, rows),
+        _ => false,
+    }
+}
+
 #[test]
-fn tables_have_the_roles_of_each_set(rt: HostRuntime) -> Result<(), Fail> {
-    let hier = hier_of(rt.alloc())?.ok_or("fits")?;
-    assert!(rt; all_are(rt.alloc(), &hier, &ROWS));
-    Ok(())
+fn tables_have_the_roles_of_each_set(rt: HostRuntime) {
+    assert!(rt; are_tables(rt.alloc(), &ROWS));
 }

@@ -2,7 +2,6 @@ use dl_names::NameSet;
 use dl_terms::Fact;
 use dl_triples::{TripleFault, read_triples};
 use std::alloc::Global;
-use std::test::Fail;
 
 /// A text, its facts, how many triples are skipped, and the names in the order of their places.
 type Value = (&'static [u8], &'static [Fact], u64, &'static [&'static str]);
@@ -194,144 +193,8 @@ const MEANINGS: &[Value] = &[
     ),
 ];
 
-const LINE: TripleFault = TripleFault::Line { n: 1 };
-
-const BLANK: TripleFault = TripleFault::Blank { n: 1 };
-
-const RESERVED: TripleFault = TripleFault::Reserved { n: 1 };
-
-/// Texts and their first faults.
-const FAULTS: &[(&[u8], TripleFault)] = &[
-    // What is no triple.
-    (b"\xEF\xBB\xBF<a> <b> <c> .", LINE),
-    (b"<a> <b> <c>", LINE),
-    (b"<a> <b> .", LINE),
-    (b"<a> .", LINE),
-    (b".", LINE),
-    (b"<a> <b> <c> . .", LINE),
-    (b"<a> <b> <c> . <a> <b> <c> .", LINE),
-    (b"<a>\x0C<b> <c> .", LINE),
-    (b"<a> <b> # <c> .", LINE),
-    (b"\"a\" <b> <c> .", LINE),
-    (b"<a> \"b\" <c> .", LINE),
-    (b"<a <b> <c> .", LINE),
-    (b"<a b> <b> <c> .", LINE),
-    (b"<a> <b> <c\x00> .", LINE),
-    (b"a <b> <c> .", LINE),
-    // Escapes of an IRI.
-    (b"<\\u006> <b> <c> .", LINE),
-    (b"<\\u00g1> <b> <c> .", LINE),
-    (b"<\\U0000006> <b> <c> .", LINE),
-    (b"<\\uD800> <b> <c> .", LINE),
-    (b"<\\uDFFF> <b> <c> .", LINE),
-    (b"<\\U0000D83D\\U0000DE00> <b> <c> .", LINE),
-    (b"<\\U00110000> <b> <c> .", LINE),
-    (b"<\\UFFFFFFFF> <b> <c> .", LINE),
-    (b"<\\u0020> <b> <c> .", LINE),
-    (b"<\\u003E> <b> <c> .", LINE),
-    (b"<\\u005c> <b> <c> .", LINE),
-    (b"<\\u0000> <b> <c> .", LINE),
-    (b"<\\n> <b> <c> .", LINE),
-    (b"<\\\\> <b> <c> .", LINE),
-    // Literals.
-    (b"<a> <b> \"\\uD800\" .", LINE),
-    (b"<a> <b> \"\\U00110000\" .", LINE),
-    (b"<a> <b> \"\\a\" .", LINE),
-    (b"<a> <b> \"\\u12\" .", LINE),
-    (b"<a> <b> \"a .", LINE),
-    (b"<a> <b> \"a\"b\" .", LINE),
-    (b"<a> <b> 'a' .", LINE),
-    (b"<a> <b> \"a\"@- .", LINE),
-    (b"<a> <b> \"a\"@ .", LINE),
-    (b"<a> <b> \"a\"@en- .", LINE),
-    (b"<a> <b> \"a\"@en--a .", LINE),
-    (b"<a> <b> \"a\"@e1 .", LINE),
-    (b"<a> <b> \"a\"@en_US .", LINE),
-    (b"<a> <b> \"a\" @en .", LINE),
-    (b"<a> <b> \"a\"@en^^<c> .", LINE),
-    (b"<a> <b> \"a\"^<c> .", LINE),
-    (b"<a> <b> \"a\"^^ <c> .", LINE),
-    (b"<a> <b> \"a\" ^^<c> .", LINE),
-    (b"<a> <b> \"a\"^^\"c\" .", LINE),
-    (b"<a> <b> \"a\"^^_:c .", LINE),
-    // Bytes that are no UTF-8: an over-long form, a cut one, a surrogate, one byte alone.
-    (b"<a\xC0\x80> <b> <c> .", LINE),
-    (b"<a\xC3> <b> <c> .", LINE),
-    (b"<a> <b> <\xED\xA0\x80> .", LINE),
-    (b"<a> <b> \"\xFF\" .", LINE),
-    (b"<a> <b> \"\"^^<\xFF> .", LINE),
-    (b"# \xFF", LINE),
-    (b"<a> <b> <c> . # \xF0\x9F\x98", LINE),
-    // Blank nodes: at once where the subject or the object has to begin, and nowhere else.
-    (b"_:x <b> <c> .", BLANK),
-    (b"\t_:", BLANK),
-    (b"_:\xFF", BLANK),
-    (b"<a> <b> _:x .", BLANK),
-    (b"<a><b>_:\xFF\xFE no dot", BLANK),
-    (b"<a> _:x <c> .", LINE),
-    (b"<a> <b> _", LINE),
-    (b"<a b> <b> _:x .", LINE),
-    (b"<a> <\xFF> _:x .", LINE),
-    (b"x _:x", LINE),
-    (b"<a> <b> <c> . _:x", LINE),
-    // A reserved name as subject, predicate, object and class.
-    (b"<http://www.w3.org/2002/07/owl#x> <b> <c> .", RESERVED),
-    (
-        b"<a> <http://www.w3.org/2000/01/rdf-schema#subClassOf> <c> .",
-        RESERVED,
-    ),
-    (
-        b"<a> <b> <http://www.w3.org/2001/XMLSchema#string> .",
-        RESERVED,
-    ),
-    (
-        b"<a> <b> <http://www.w3.org/2002/07/owl#Nothing> .",
-        RESERVED,
-    ),
-    (
-        b"<http://www.w3.org/2002/07/owl#Nothing> <b> <c> .",
-        RESERVED,
-    ),
-    (
-        b"<a> <http://www.w3.org/2002/07/owl#Nothing> <c> .",
-        RESERVED,
-    ),
-    (
-        b"<a> <b> <http://www.w3.org/1999/02/22-rdf-syntax-ns#type> .",
-        RESERVED,
-    ),
-    (
-        b"<a> <b> <http://www.w3.org/2002/07/owl#NamedIndividual> .",
-        RESERVED,
-    ),
-    (
-        b"<a> <http://www.w3.org/1999/02/22-rdf-syntax-ns#type> <http://www.w3.org/2002/07/owl#Class> .",
-        RESERVED,
-    ),
-    (
-        b"<http://www.w3.org/2001/XMLSchema#x> <http://www.w3.org/1999/02/22-rdf-syntax-ns#type> <c> .",
-        RESERVED,
-    ),
-    (
-        b"<a> <b> <http://www.w3.org/2002/07/\\u006Fwl#Thing> .",
-        RESERVED,
-    ),
-    // It is told for a whole right triple alone.
-    (b"<http://www.w3.org/2002/07/owl#x> <b> <c>", LINE),
-    (b"<http://www.w3.org/2002/07/owl#x> <b> _:c .", BLANK),
-    // Lines are counted from 1, and the first fault is told.
-    (b"\n\rx", TripleFault::Line { n: 3 }),
-    (b"\r\n\r\nx", TripleFault::Line { n: 3 }),
-    (b"<a> <b> <c> .\n\"x\r\n_:x", TripleFault::Line { n: 2 }),
-    (b"<a> <b> <c> .\r_:x\nx", TripleFault::Blank { n: 2 }),
-    (
-        b"#\n\n\n<a> <b> <http://www.w3.org/2002/07/owl#x> .\nx",
-        TripleFault::Reserved { n: 4 },
-    ),
-];
-
 /// Whether the names are these, each at its place, and there are no more.
-fn has_names(set: &mut NameSet, names: &[&str]) -> bool {
+pub(crate) fn has_names(set: &mut NameSet, names: &[&str]) -> bool {
     let mut place = 0u32;
     for name in names {
         if set.add(name) != Ok(place) {
@@ -342,40 +205,17 @@ fn has_names(set: &mut NameSet, names: &[&str]) -> bool {
     set.add("no name of a test") == Ok(place)
 }
 
-/// Whether the text has its value.
-fn has_value(alloc: Global, row: &Value) -> bool {
-    let mut set = NameSet::new(alloc);
-    match read_triples(alloc, row.0, &mut set) {
-        Ok(triples) => {
-            triples.facts.as_slice() == row.1
-                && triples.skipped == row.2
-                && has_names(&mut set, row.3)
-        }
-        Err(_) => false,
-    }
-}
-
+/// Whether each text has its value.
 fn have_values(alloc: Global, rows: &[Value]) -> bool {
-    for row in rows {
-        if !has_value(alloc, row) {
+    for (text, facts, skipped, names) in rows {
+        let mut set = NameSet::new(alloc);
+        let Ok(triples) = read_triples(alloc, text, &mut set) else {
             return false;
-        }
-    }
-    true
-}
-
-/// Whether the text has the fault.
-fn has_fault(alloc: Global, text: &[u8], fault: TripleFault) -> bool {
-    let mut set = NameSet::new(alloc);
-    match read_triples(alloc, text, &mut set) {
-        Ok(_) => false,
-        Err(told) => told == fault,
-    }
-}
-
-fn have_faults(alloc: Global, rows: &[(&[u8], TripleFault)]) -> bool {
-    for row in rows {
-        if !has_fault(alloc, row.0, row.1) {
+        };
+        if triples.facts.as_slice() != *facts
+            || triples.skipped != *skipped
+            || !has_names(&mut set, names)
+        {
             return false;
         }
     }
@@ -402,21 +242,17 @@ fn last_line(text: &[u8]) -> u64 {
 /// Whether a prefix of the file has the value that its whole lines have: the last line is empty, a comment or ends with its dot.
 /// Else it is no triple.
 fn is_read(alloc: Global, prefix: &[u8]) -> bool {
-    let whole = prefix.len() <= 11 || prefix.ends_with(b"\n") || prefix.ends_with(b" .");
-    if !whole {
-        return has_fault(
-            alloc,
-            prefix,
-            TripleFault::Line {
-                n: last_line(prefix),
-            },
-        );
-    }
+    let is_whole = prefix.len() <= 11 || prefix.ends_with(b"\n") || prefix.ends_with(b" .");
     let mut set = NameSet::new(alloc);
     match read_triples(alloc, prefix, &mut set) {
-        Ok(triples) => triples.facts.as_slice()
-            == &ONE_LINK[..usize::from(prefix.len() + 1 >= FILE.len())],
-        Err(_) => false,
+        Ok(triples) => {
+            let count = usize::from(prefix.len() + 1 >= FILE.len());
+            is_whole && triples.facts.as_slice() == &ONE_LINK[..count]
+        }
+        Err(fault) => {
+            let n = last_line(prefix);
+            !is_whole && fault == TripleFault::Line { n }
+        }
     }
 }
 
@@ -454,11 +290,6 @@ fn texts_have_their_values(rt: HostRuntime) {
     assert!(rt; have_values(rt.alloc(), ESCAPES));
     assert!(rt; have_values(rt.alloc(), LITERALS));
     assert!(rt; have_values(rt.alloc(), MEANINGS));
-}
-
-#[test]
-fn texts_have_their_faults(rt: HostRuntime) {
-    assert!(rt; have_faults(rt.alloc(), FAULTS));
 }
 
 #[test]
