@@ -141,8 +141,8 @@ fn write_text<S: Sink>(sink: &mut S, status: Status, text: &str) -> Status
     }
 }
 
-/// The command `answer`: writes the certain answers to a query over an ontology and facts, or the first broken axiom, or
-/// why there are none, and says how that ended. The three names are those of files, which are read whole,
+/// The command `answer`: writes the certain answers to a query over an ontology and facts, or the first broken axiom,
+/// or why there are none, and says how that ended. The three names are those of files, which are read whole,
 /// in the order of the words, before any is read for faults. `limit` is the most answers that are
 /// written. `Usage` never comes, and `NoMemory` may come at any time. Where the library doesn't tell
 /// its files, nothing is said of the texts of `Done` and `Refused`. `WriteFault` overrides every other
