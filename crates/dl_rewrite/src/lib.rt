@@ -3,10 +3,8 @@
 
 mod disjunct;
 pub mod laws;
-mod masks;
 mod merge;
 mod parts;
 mod rewriting;
-mod variables;
 
 pub use rewriting::rewrite;

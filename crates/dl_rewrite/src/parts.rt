@@ -7,9 +7,8 @@ ghost use Rattle.dl_tree.specs.Masks.{set_of, AreLinkMasks};
 ghost use Rattle.dl_tree.specs.TestsOf.{IsNumbering};
 ghost use Rattle.dl_rewrite.specs.Steps.{member_of, ArePartsOf, atom_terms, atom_pairs, part_pairs, pairs_of};
 
-use crate::masks::part_of;
-use crate::variables::bit_of;
 use dl_terms::{Atom, Query, Term};
+use dl_tree::{bit_of, part_of};
 use std::alloc::{AllocError, Global};
 
 /// The parts of a set: connected sets that no role atom links to one another.

@@ -14,10 +14,9 @@ ghost use Rattle.dl_rewrite.specs.Shape.{IsShapedFor};
 ghost use Rattle.dl_rewrite.specs.Rewriting.{IsRewriting};
 
 use crate::disjunct::disjunct_of;
-use crate::variables::{existential, links};
 use dl_hier::Hier;
 use dl_terms::{Disjunct, List, NoMemory, Query};
-use dl_tree::TreeTable;
+use dl_tree::{TreeTable, existential_variables, link_bits};
 use std::alloc::Global;
 
 /// The rewriting of a query over a hierarchy: disjuncts over names that together have exactly the certain answers,
@@ -34,8 +33,8 @@ pub fn rewrite(alloc: Global, hier: &Hier, query: &Query) -> Result<List<Disjunc
     ensures shaped { IfOk result (All (IsShapedFor query.now)) }
 {
     let table = TreeTable::build(alloc, hier, query)?;
-    let variables = existential(alloc, query)?;
-    let links = links(alloc, &variables, query.atoms.as_slice())?;
+    let variables = existential_variables(alloc, query)?;
+    let links = link_bits(alloc, &variables, query.atoms.as_slice())?;
     disjuncts(alloc, &table, query, &variables, &links)
 }
 

@@ -11,4 +11,6 @@ mod rows;
 mod table;
 mod variables;
 
+pub use masks::part_of;
 pub use table::TreeTable;
+pub use variables::{bit_of, existential_variables, link_bits};

@@ -33,8 +33,9 @@ pub(crate) fn is_connected(links: &[(u8, u8)], s: u8) -> bool
     part_of(links, s) == s
 }
 
-/// A connected part of a set that isn't empty, which no role atom links to the rest of it.
-pub(crate) fn part_of(links: &[(u8, u8)], s: u8) -> u8
+/// A connected part of a set that isn't empty, which no role atom links to the rest of it. Both are numbers, and the
+/// role atoms come as the bits of their terms.
+pub fn part_of(links: &[(u8, u8)], s: u8) -> u8
     ensures { (q : Query) (ex : List ℕ) → AreLinkMasks q ex links.now → IsNumbering ex → length ex ≤ 8
         → 1 ≤ s → s < 2 ^ length ex → IsConnected q (set_of ex result)
         × IsClosedIn q (set_of ex result) (set_of ex s) × (result < 2 ^ length ex) }
@@ -62,7 +63,7 @@ fn some_bit(s: u8) -> Option<u8>
 }
 
 /// The part of a set that role atoms within the set link to one of its members.
-pub(crate) fn component(links: &[(u8, u8)], rest: u8, seed: u8) -> u8
+fn component(links: &[(u8, u8)], rest: u8, seed: u8) -> u8
     ensures { (q : Query) (ex : List ℕ) (v : ℕ) → AreLinkMasks q ex links.now → rest < 2 ^ length ex
         → bit_of ex (Var v) ≡ seed → set_of ex rest v ≡ true
         → IsConnected q (set_of ex result) × IsClosedIn q (set_of ex result) (set_of ex rest)

@@ -12,7 +12,7 @@ ghost use Rattle.dl_tree.specs.Plans.{IsNext, IsRowFor, FoldsBelowAt};
 use crate::asked::rows_of_atoms;
 use crate::atoms::AtomRows;
 use crate::folds::{below_row, fold_row, roles_of};
-use crate::variables::{existential, links};
+use crate::variables::{existential_variables, link_bits};
 use dl_hier::Hier;
 use dl_terms::{List, NoMemory, Query, Role};
 use std::alloc::Global;
@@ -47,7 +47,7 @@ impl TreeTable {
         ensures exact { IfOk result (λ table. (axioms : Items Axiom) → IsHierarchyOf hier.now axioms →
             IsTableOf axioms (roles hier.now.predicates) query.now table) }
     {
-        let variables = existential(alloc, query)?;
+        let variables = existential_variables(alloc, query)?;
         let rows = rows_of(alloc, hier, query, &variables)?;
         Ok(TreeTable {
             rows: padded(alloc, rows)?,
@@ -79,7 +79,7 @@ fn rows_of(
         return Ok(List::new(alloc));
     }
     let asked = query.atoms.as_slice();
-    let links = links(alloc, variables, asked)?;
+    let links = link_bits(alloc, variables, asked)?;
     let atoms = rows_of_atoms(alloc, hier, hier.roles().len(), variables, asked)?;
     rows_to(
         alloc,

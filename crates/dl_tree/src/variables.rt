@@ -8,8 +8,8 @@ ghost use Rattle.dl_tree.specs.Masks.{bit_of, atom_links};
 use dl_terms::{Atom, Query, Term};
 use std::alloc::{AllocError, Global};
 
-/// The existential variables, ascending.
-pub(crate) fn existential(alloc: Global, query: &Query) -> Result<Vec<u8>, AllocError>
+/// The existential variables of a query, ascending. The i-th is bit i in the number of a set.
+pub fn existential_variables(alloc: Global, query: &Query) -> Result<Vec<u8>, AllocError>
     ensures { IfOk result (λ found. found.items ≡ existential_variables query.now) }
 {
     let mut found = Vec::new(alloc);
@@ -64,8 +64,8 @@ fn is_variable(term: Term, v: u8) -> bool
     }
 }
 
-/// The bits of the terms of each role atom.
-pub(crate) fn links(
+/// The bits of the two terms of each role atom, in order.
+pub fn link_bits(
     alloc: Global,
     variables: &[u8],
     atoms: &[Atom],
@@ -82,8 +82,8 @@ pub(crate) fn links(
     Ok(links)
 }
 
-/// The bit of a term, where it is one of the variables.
-pub(crate) fn bit_of(variables: &[u8], term: Term) -> u8
+/// The bit of a term among the existential variables, or 0 where it is none of them.
+pub fn bit_of(variables: &[u8], term: Term) -> u8
     requires { length variables.now ≤ 8 }
     ensures { result ≡ bit_of variables.now term }
 {

@@ -1,8 +1,8 @@
 use Rattle.dl_terms.specs.Queries.{is_existential}
 use Rattle.std.proofs.Common.{sym, ap, ◌∙◌}
 use Rattle.dl_tree.proofs.VariableLemmas.{found_next, found_same}
-use Rattle.dl_tree.proofs.variables.existential.Goals.{then-is_existential+in_ok-push, else-is_existential}
-use Rattle.dl_tree.proofs.variables.existential.Goals as goal
+use Rattle.dl_tree.proofs.variables.existential_variables.Goals.{then-is_existential+in_ok-push, else-is_existential}
+use Rattle.dl_tree.proofs.variables.existential_variables.Goals as goal
 
 pub loop-v-preserved : goal.loop-v-preserved
 loop-v-preserved c = elim c.if-is_existential.branch [
