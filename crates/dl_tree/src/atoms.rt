@@ -1,5 +1,5 @@
 // What the atoms of a query ask where some variables of a set stand at one role.
-ghost use Rattle.std.specs.Prelude.{◌≡◌, ◌&&◌, ℕ, not, true, false, [], slice_index_or, IfOk};
+ghost use Rattle.std.specs.Prelude.{◌≡◌, ◌&&◌, ◌||◌, ℕ, not, true, false, [], slice_index_or, IfOk};
 ghost use Rattle.std.specs.List.{Contains, list_all};
 ghost use Rattle.dl_reach.specs.Rows.{row_has};
 ghost use Rattle.dl_tree.specs.declared.atoms.AtomTest.TheVariants.{Link};
@@ -158,6 +158,15 @@ fn is_apart(bit: u8, m: u8) -> bool
     bit & m == 0
 }
 
+/// Whether two linked terms are not both among the members that stand at one role.
+fn are_apart(from: u8, to: u8, m: u8) -> bool
+    ensures { result ≡ (not (has from m) || not (has to m)) }
+{
+    let from_is = is_apart(from, m);
+    let to_is = is_apart(to, m);
+    from_is || to_is
+}
+
 /// The same of a role atom: all roles pass where all do that aren't below its property, or its inverse.
 fn ask_link(row: &mut Vec<u64>, link: (u8, u8), out: &[u64], into: &[u64], s: u8, m: u8)
     ensures { (i : ℕ) → row_has row.new.items i ≡ (row_has row.old.items i
@@ -180,7 +189,7 @@ fn stands_at(test: &AtomTest, s: u8, m: u8) -> bool
             out,
             into,
         } => {
-            (*from & m == 0 || *to & m == 0)
+            are_apart(*from, *to, m)
                 && (*from & s == 0 || *to & s != 0 || *from & m != 0 && *out)
                 && (*to & s == 0 || *from & s != 0 || *to & m != 0 && *into)
         }
