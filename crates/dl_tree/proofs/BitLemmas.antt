@@ -81,11 +81,32 @@ met n old other new w all i = by (cases_lt (i / 64) n)
         ap (λ x. word_has x (i % 64)) (w.left (i / 64) l ∙ none) ∙ zero_has (i % 64)
         ∙ sym (ap (λ x. word_has x (i % 64) && row_has other i) none ∙ ap (λ b. b && row_has other i) (zero_has (i % 64)))
 
--- the bits that one of them has
-pub joined : (n : ℕ) (old other new : List ℕ) → Worked bit_or n old other new → length old ≤ n → (i : ℕ) → i < 64 * length old
+-- the bits that one of them has: behind the shorter row there is nothing to put, or no room
+pub joined : (n : ℕ) (old other new : List ℕ) → Worked bit_or n old other new → min (length old) (length other) ≤ n → (i : ℕ) → i < 64 * length old
     → row_has new i ≡ (row_has old i || row_has other i)
-joined n old other new w all i within =
-    ap (λ x. word_has x (i % 64)) (w.done (i / 64) (omega (arith, all, within))) ∙ or_has (get_or old (i / 64) 0) (get_or other (i / 64) 0) (i % 64)
+joined n old other new w all i within = by (cases_lt (i / 64) n)
+  where
+    past : (a b k : ℕ) → min a b ≤ n → n ≤ k → k < a → b ≤ k
+    past a b k l m h = grind arith
+
+    or_false : (b : Bool) → (b || false) ≡ b
+    or_false true = refl
+    or_false false = refl
+
+    by : (i / 64 < n) ⊎ (n ≤ i / 64) → row_has new i ≡ (row_has old i || row_has other i)
+    by (inl l) = ap (λ x. word_has x (i % 64)) (w.done (i / 64) l) ∙ or_has (get_or old (i / 64) 0) (get_or other (i / 64) 0) (i % 64)
+    by (inr l) =
+        let none : get_or other (i / 64) 0 ≡ 0 =
+        get_or_past other (i / 64) 0 (past (length old) (length other) (i / 64) all l (omega (arith, within))) in
+        ap (λ x. word_has x (i % 64)) (w.left (i / 64) l)
+        ∙ sym (ap (λ x. row_has old i || word_has x (i % 64)) none ∙ ap (λ b. row_has old i || b) (zero_has (i % 64)) ∙ or_false (row_has old i))
+
+-- up to the end of the shorter of two rows
+pub in_shorter : (i n : ℕ) (old other new : List ℕ) → i < n → n ≡ min (length old) (length other) → length new ≡ length old → i < length new
+in_shorter i n old other new l is same = subst (λ k. i < k) (sym same) (least i (length old) (length other) (subst (λ k. i < k) is l))
+  where
+    least : (i a b : ℕ) → i < min a b → i < a
+    least i a b l = grind arith
 
 -- a word without bits
 pub no_bit : (row : List ℕ) (w k : ℕ) → get_or row w 0 ≡ 0 → k / 64 ≡ w → HasBit row k → ⊥

@@ -77,7 +77,7 @@ pub(crate) fn join(row: &mut Vec<u64>, other: &[u64])
     ensures bits { (i : ℕ) → i < 64 * length row.old.items
         → row_has row.new.items i ≡ (row_has row.old.items i || row_has other.now i) }
 {
-    for i in 0..row.len() {
+    for i in 0..row.len().min(other.len()) {
         row[i] |= word_at(other, i);
     }
 }
