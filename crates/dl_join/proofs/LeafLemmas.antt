@@ -53,16 +53,17 @@ none_test : (o : Option ℕ) → is_none o ≡ true → o ≡ None
 none_test None e = refl
 none_test (Some w) e = absurd (true≢false (sym e))
 
-near_test : (var to : ℕ) (n : Need) → is_near var to n ≡ true → Mentions var n ⊎ ((n.at ≡ to) × (n.other ≡ None))
-near_test var to n e = by (mentions var n) refl (cases_eq n.at to)
+near_test : (wide : Bool) (var to : ℕ) (n : Need) → is_near wide var to n ≡ true → Mentions var n ⊎ ((n.at ≡ to) × (n.other ≡ None))
+near_test wide var to n e = by (mentions var n) refl wide refl (cases_eq n.at to)
   where
-    by : (b : Bool) → mentions var n ≡ b → (n.at ≡ to) ⊎ (n.at ≢ to) → Mentions var n ⊎ ((n.at ≡ to) × (n.other ≡ None))
-    by true is at = inl (mentions_test var n is)
-    by false is (inl same) = (let b : (n.at == to) ≡ true = grind (arith, nat_tests) in inr (same, none_test n.other (rw (is, b) at e)))
-    by false is (inr differs) = (let b : (n.at == to) ≡ false = grind (arith, nat_tests) in let f : false ≡ true = rw (is, b) at e in absurd (true≢false (sym f)))
+    by : (b : Bool) → mentions var n ≡ b → (w : Bool) → wide ≡ w → (n.at ≡ to) ⊎ (n.at ≢ to) → Mentions var n ⊎ ((n.at ≡ to) × (n.other ≡ None))
+    by true is w asked at = inl (mentions_test var n is)
+    by false is false asked at = (let f : false ≡ true = rw (is, asked) at e in absurd (true≢false (sym f)))
+    by false is true asked (inl same) = (let b : (n.at == to) ≡ true = grind (arith, nat_tests) in inr (same, none_test n.other (rw (is, asked, b) at e)))
+    by false is true asked (inr differs) = (let b : (n.at == to) ≡ false = grind (arith, nat_tests) in let f : false ≡ true = rw (is, asked, b) at e in absurd (true≢false (sym f)))
 
-test_near : (var to : ℕ) (n : Need) → Mentions var n → is_near var to n ≡ true
-test_near var to n m = rw (test_mentions var n m) refl
+test_near : (wide : Bool) (var to : ℕ) (n : Need) → Mentions var n → is_near wide var to n ≡ true
+test_near wide var to n m = rw (test_mentions var n m) refl
 
 -- ---- what holds of each item, by the items
 
@@ -90,13 +91,14 @@ head_agree f g (t ∷ ts) e =
 
 -- ---- a leaf's needs and the others
 
-module _ (var to : ℕ) (needs near beyond : List Need) (with : near ≡ filter (λ (n : Need). is_near var to n) needs) (without : beyond ≡ filter (λ (n : Need). not (is_near var to n)) needs)
+module _ (wide : Bool) (var to : ℕ) (needs near beyond : List Need) (with : near ≡ filter (λ (n : Need). is_near wide var to n) needs)
+    (without : beyond ≡ filter (λ (n : Need). not (is_near wide var to n)) needs)
     (head : List Term) (leaf : IsLeaf var to needs head) where
   in_near : (n : Need) → Contains near n → Contains needs n × ((v : ℕ) → Mentions v n → (v ≡ var) ⊎ (v ≡ to))
   in_near n c =
-      let w = Contains-filter (λ (m : Need). is_near var to m) needs n (subst (λ xs. Contains xs n) with c) in (
+      let w = Contains-filter (λ (m : Need). is_near wide var to m) needs n (subst (λ xs. Contains xs n) with c) in (
         w.0,
-        λ v m. elim (near_test var to n w.1) [
+        λ v m. elim (near_test wide var to n w.1) [
           | inl has ↦ All-at (KeepsTo var to) needs n leaf.hangs.alone w.0 has v m
           | inr alone ↦ elim m [ inl is ↦ inr (sym is ∙ alone.0) | inr some ↦ absurd (let none = alone.1 in cc (none, some)) ]
         ],
@@ -104,18 +106,18 @@ module _ (var to : ℕ) (needs near beyond : List Need) (with : near ≡ filter 
 
   in_beyond : (n : Need) → Contains beyond n → Contains needs n × (Mentions var n → ⊥)
   in_beyond n c =
-      let w = Contains-filter (λ (m : Need). not (is_near var to m)) needs n (subst (λ xs. Contains xs n) without c) in
-      (w.0, λ m. (let e : not true ≡ true = subst (λ b. not b ≡ true) (test_near var to n m) w.1 in true≢false (sym e)))
+      let w = Contains-filter (λ (m : Need). not (is_near wide var to m)) needs n (subst (λ xs. Contains xs n) without c) in
+      (w.0, λ m. (let e : not true ≡ true = subst (λ b. not b ≡ true) (test_near wide var to n m) w.1 in true≢false (sym e)))
 
-  of_near : (n : Need) → Contains needs n → is_near var to n ≡ true → Contains near n
-  of_near n c e = subst (λ xs. Contains xs n) (sym with) (Contains-filter_of (λ (m : Need). is_near var to m) needs n c e)
+  of_near : (n : Need) → Contains needs n → is_near wide var to n ≡ true → Contains near n
+  of_near n c e = subst (λ xs. Contains xs n) (sym with) (Contains-filter_of (λ (m : Need). is_near wide var to m) needs n c e)
 
   parted : (n : Need) → Contains needs n → Contains near n ⊎ Contains beyond n
-  parted n c = by (is_near var to n) refl
+  parted n c = by (is_near wide var to n) refl
     where
-      by : (b : Bool) → is_near var to n ≡ b → Contains near n ⊎ Contains beyond n
+      by : (b : Bool) → is_near wide var to n ≡ b → Contains near n ⊎ Contains beyond n
       by true e = inl (of_near n c e)
-      by false e = inr (subst (λ xs. Contains xs n) (sym without) (Contains-filter_of (λ (m : Need). not (is_near var to m)) needs n c (ap not e)))
+      by false e = inr (subst (λ xs. Contains xs n) (sym without) (Contains-filter_of (λ (m : Need). not (is_near wide var to m)) needs n c (ap not e)))
 
   pub near_fitted : All CanBeFitted needs → All CanBeFitted near
   near_fitted all = all_from CanBeFitted near (λ n c. All-at CanBeFitted needs n all (in_near n c).0)
@@ -123,7 +125,7 @@ module _ (var to : ℕ) (needs near beyond : List Need) (with : near ≡ filter 
   pub joined_near : Any (Mentions to) near
   joined_near =
       let any = leaf.joined in
-      Any-Contains (Mentions to) near any.1 (of_near any.1 (any.0, any.2, any.3) (test_near var to any.1 any.4.0)) any.4.1
+      Any-Contains (Mentions to) near any.1 (of_near any.1 (any.0, any.2, any.3) (test_near wide var to any.1 any.4.0)) any.4.1
 
   module _ (list : List (ℕ × ℕ)) (are : AreNamesOf to near list) (new : Need) (at : new.at ≡ to) (other : new.other ≡ None) (column : new.column ≡ First)
       (pairs : new.pairs.now ≡ list) where

@@ -10,3 +10,4 @@ pub mod LeafLemmas
 pub mod LevelLemmas
 pub mod MergeLemmas
 pub mod GatherLemmas
+pub mod DirectLemmas

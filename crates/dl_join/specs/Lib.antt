@@ -5,3 +5,4 @@ pub mod Searching
 pub mod Probing
 pub mod Gathering
 pub mod Leaves
+pub mod Direct

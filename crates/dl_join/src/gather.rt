@@ -3,11 +3,13 @@ ghost use Rattle.std.specs.Prelude.{◌≡◌, ℕ, List, [], length, map, OnOk,
 ghost use Rattle.std.specs.List.{All, Contains};
 ghost use Rattle.dl_terms.specs.Sets.{IsSetOf};
 ghost use Rattle.dl_join.specs.Searching.{name_or_zero};
+ghost use Rattle.dl_join.specs.Direct.{row_of};
 ghost use Rattle.dl_join.specs.Tuples.{AreExactly, AreMoreThan, tuple_cmp, ComparesLast, AllBefore};
 
 use crate::JoinFault;
 use crate::merged::{copy_tuple, merge};
-use dl_terms::{List, NoMemory, Term, Tuples, set_of};
+use crate::need::{Column, name_in};
+use dl_terms::{List, NoMemory, Pair, Term, Tuples, set_of};
 use std::alloc::{AllocError, Global};
 use std::cmp::Ordering;
 use std::mem;
@@ -94,6 +96,27 @@ impl Gathered {
     {
         for tuple in tuples {
             self.add_tuple(tuple.as_slice())?;
+        }
+        Ok(())
+    }
+
+    /// Adds the first names, one or two, of each pair from a column on.
+    pub fn add_rows(
+        &mut self,
+        pairs: &[Pair],
+        column: Column,
+        width: usize,
+    ) -> Result<(), JoinFault>
+        requires valid { IsGathered self.old }
+        requires width { width ≡ self.old.known.width }
+        requires range { width ≤ 2 }
+        ensures ok { OnOk result (Gathers (Contains (map (row_of column width) pairs.now)) self.old self.new) }
+        ensures many { result ≡ Err JoinFault.TooMany → AreMoreThan self.old.limit
+            (λ t. Has self.old t ⊎ Contains (map (row_of column width) pairs.now) t) }
+    {
+        for pair in pairs {
+            let row = [name_in(*pair, column), pair.1];
+            self.add_tuple(&row[..width])?;
         }
         Ok(())
     }

@@ -1,6 +1,7 @@
 // Joins of the lists of probes, and the union of two answers.
 #![tactic(auto)]
 
+mod direct;
 mod fault;
 mod gather;
 mod joined;

@@ -45,7 +45,7 @@ pub fn name_in(pair: Pair, column: Column) -> u32
     }
 }
 
-/// How many pairs at the front have names below the bound: found by steps that double, and then by halving.
+/// How many pairs at the front have names below the bound: found by steps that grow eightfold, and then by halving.
 pub fn passed(pairs: &[Pair], column: Column, bound: u64) -> usize
     requires { IsNonDecreasingBy (in_column column) pairs.now }
     ensures range { result ≤ length pairs.now }
@@ -56,7 +56,7 @@ pub fn passed(pairs: &[Pair], column: Column, bound: u64) -> usize
     halve(pairs, column, bound, low, high)
 }
 
-/// Steps that double, from the front on, as long as they land below the bound.
+/// Steps that grow eightfold, from the front on, as long as they land below the bound.
 fn leap(pairs: &[Pair], column: Column, bound: u64) -> (usize, usize)
     requires { IsNonDecreasingBy (in_column column) pairs.now }
     ensures order { result.0 ≤ result.1 }
@@ -72,7 +72,7 @@ fn leap(pairs: &[Pair], column: Column, bound: u64) -> (usize, usize)
             return (low, last);
         }
         low = last + 1;
-        step = step.saturating_mul(2);
+        step = step.saturating_mul(8);
     }
     (low, pairs.len())
 }

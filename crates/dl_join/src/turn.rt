@@ -23,7 +23,7 @@ fn backward(order: &[u8], need: &Need<'_>) -> Option<u8>
 }
 
 /// The pairs turned, sorted.
-fn turned(alloc: Global, pairs: &[Pair]) -> Result<List<Pair>, AllocError>
+pub fn turned(alloc: Global, pairs: &[Pair]) -> Result<List<Pair>, AllocError>
     ensures { IfOk result (λ list. AreTurned pairs.now list) }
 {
     let pairs = swapped(alloc, pairs)?;

@@ -4,4 +4,4 @@ use Rattle.dl_join.specs.Leaves.{is_near}
 use Rattle.dl_join.proofs.leaf.needs_near.Given as goal
 
 abbrev pub invariant-loop-need : goal.invariant-loop-need
-invariant-loop-need l = l.near.items ≡ filter (λ (n : Need). is_near l.leaf l.to n) (take l.need-index l.needs)
+invariant-loop-need l = l.near.items ≡ filter (λ (n : Need). is_near l.wide l.leaf l.to n) (take l.need-index l.needs)
