@@ -9,7 +9,8 @@ use crate::order::names;
 use dl_terms::Term;
 use std::alloc::{AllocError, Global};
 
-/// A leaf, and the variable that it hangs on. One that a need has second comes first, as no list has to be turned for it.
+/// A leaf, and the variable that it hangs on. One that a need has second comes first, as no list has to be turned for
+/// it.
 pub fn leaf_of(needs: &[Need<'_>], head: &[Term]) -> Option<(u8, u8)>
     requires { All CanBeFitted needs.now }
     ensures { IfSome result (λ leaf. IsLeaf leaf.0 leaf.1 needs.now head.now) }

@@ -1,5 +1,5 @@
-// The order of the variables: connected to those before, the smallest list first, those of the head first, ties by
-// number.
+// The order of the variables: connected to those before, the smallest list first, those of the head first, the long
+// lists not turned, ties by number.
 ghost use Rattle.std.specs.Prelude.{◌≡◌, ℕ, ◌<◌, ◌↔◌, length, IfOk, OnOk, IsTrue};
 ghost use Rattle.std.specs.List.{Any, Contains};
 ghost use Rattle.dl_join.specs.Probing.{OrdersAll, AddsVariables, is_first};
@@ -15,9 +15,10 @@ const EXISTENTIAL: u32 = 4;
 
 /// The variables of needs in the order of the search: of those that a need joins with one before, or of all where
 /// there is none, those whose smallest list is the smallest (lengths with the same power of two below them are
-/// alike, and those of an existential variable count sixteenfold), of these one of the head where there is one, and of
-/// these the one with the least number. Existential variables that no need joins with another one come last, since
-/// only whether they have a name is asked.
+/// alike, and those of an existential variable count sixteenfold), of these one of the head where there is one, of
+/// these one that is first in the longest list that joins it, so that this isn't turned, and of these the one with the
+/// least number. Existential variables that no need joins with another one come last, since only whether they have a
+/// name is asked.
 pub fn order_of(alloc: Global, needs: &[Need<'_>], head: &[Term]) -> Result<Vec<u8>, AllocError>
     ensures { IfOk result (λ order. OrdersAll order.items needs.now) }
 {
@@ -94,12 +95,19 @@ fn place_of_next(needs: &[Need<'_>], head: &[Term], before: &[u8], waiting: &[u8
 
 /// What is smaller comes first: whether no need joins the variable with one before, whether it is existential and none
 /// joins it with any other, the size of its smallest list (that of an existential one sixteenfold), whether it isn't in
-/// the head, and its number.
-fn rank(needs: &[Need<'_>], head: &[Term], before: &[u8], var: u8) -> (bool, bool, u32, bool, u8) {
+/// the head, whether it is second in the longest list that joins it, and its number.
+fn rank(
+    needs: &[Need<'_>],
+    head: &[Term],
+    before: &[u8],
+    var: u8,
+) -> (bool, bool, u32, bool, bool, u8) {
     let existential = !names(head, var);
     let mut apart = true;
     let mut alone = existential;
     let mut size = u32::MAX;
+    let mut longest = 0;
+    let mut second = false;
     for need in needs {
         let neighbour = if need.at == var {
             need.other
@@ -108,16 +116,21 @@ fn rank(needs: &[Need<'_>], head: &[Term], before: &[u8], var: u8) -> (bool, boo
         } else {
             continue;
         };
-        size = size.min(bits(need.pairs));
+        let own = bits(need.pairs);
+        size = size.min(own);
         if let Some(other) = neighbour {
             alone = false;
             apart &= !has(before, other);
+            if own > longest {
+                longest = own;
+                second = need.at != var;
+            }
         }
     }
     if existential {
         size = size.saturating_add(EXISTENTIAL);
     }
-    (apart, alone, size, existential, var)
+    (apart, alone, size, existential, second, var)
 }
 
 /// How many bits the length of a list has.

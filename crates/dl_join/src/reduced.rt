@@ -20,8 +20,9 @@ use crate::turn::{fitted_needs, turned, turned_lists};
 use dl_terms::{List, NoMemory, Pair, Term, Tuples, set_of};
 use std::alloc::{AllocError, Global};
 
-/// Gathers what needs give to a head, after at most so many leaves were taken off. The needs of a leaf, and those of the
-/// variable alone that it hangs on, become one list of the names that they leave to that.
+/// Gathers what needs give to a head, after at most so many leaves were taken off. The needs of a leaf, and those of
+/// the variable alone that it hangs on, become one list of the names that they leave to that. Where one need alone has
+/// the leaf, that list is its own, turned if it has the leaf first.
 pub fn reduced(
     alloc: Global,
     needs: &[Need<'_>],
