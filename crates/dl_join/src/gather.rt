@@ -17,8 +17,9 @@ use std::mem;
 /// How many tuples are gathered at least before they are made distinct.
 const BATCH: u64 = 4096;
 
-/// Tuples that are known to be distinct, ascending, and fresh ones in the order in which they were found. Those of one
-/// first name are made known together, as long as they come by ascending first names.
+/// Tuples that are known to be distinct, ascending, and fresh ones in the order in which they were found. From the first
+/// one that comes out of order on, those of one first name are gathered, and made known together, as long as they come
+/// by ascending first names.
 #[derive(Drop)]
 pub struct Gathered {
     alloc: Global,
@@ -27,6 +28,7 @@ pub struct Gathered {
     fresh: List<List<u32>>,
     last: Vec<u32>,
     in_order: bool,
+    grouped: bool,
 }
 
 impl Gathered {
@@ -46,6 +48,7 @@ impl Gathered {
             fresh: List::new(alloc),
             last: Vec::new(alloc),
             in_order: true,
+            grouped: false,
         }
     }
 
@@ -59,6 +62,20 @@ impl Gathered {
     {
         let tuple = names_of(self.alloc, head)?;
         self.begin(tuple.as_slice())?;
+        self.add_own(tuple)
+    }
+
+    /// Adds a tuple, to the fresh ones where those of one first name are gathered.
+    fn add_own(&mut self, tuple: Vec<u32>) -> Result<(), JoinFault>
+        requires valid { IsGathered self.old }
+        requires width { length tuple.items ≡ self.old.known.width }
+        ensures ok { OnOk result (Gathers (λ t. t ≡ tuple.items) self.old self.new) }
+        ensures many { result ≡ Err JoinFault.TooMany → AreMoreThan self.old.limit
+            (λ t. Has self.old t ⊎ (t ≡ tuple.items)) }
+    {
+        if self.grouped {
+            return self.add_fresh(tuple);
+        }
         self.add_tuple(tuple.as_slice())
     }
 
@@ -69,6 +86,11 @@ impl Gathered {
         ensures many { result ≡ Err JoinFault.TooMany → AreMoreThan self.old.limit (Has self.old) }
     {
         if !self.in_order || !begins_behind(self.fresh.as_slice(), tuple) {
+            return Ok(());
+        }
+        if !self.grouped {
+            self.settle()?;
+            self.grouped = true;
             return Ok(());
         }
         self.add_again()?;
@@ -129,10 +151,10 @@ impl Gathered {
             (λ t. Has self.old t ⊎ (t ≡ tuple.now)) }
     {
         if self.fresh.len() > 0 {
-            return self.add_fresh(tuple);
+            return self.add_copy(tuple);
         }
         match self.compare_last(tuple)? {
-            Ordering::Less => self.add_fresh(tuple),
+            Ordering::Less => self.add_copy(tuple),
             Ordering::Equal => Ok(()),
             Ordering::Greater => self.add_known(tuple),
         }
@@ -170,8 +192,8 @@ impl Gathered {
         Ok(())
     }
 
-    /// Adds a tuple to the fresh ones, which are made known where they are as many as these.
-    fn add_fresh(&mut self, tuple: &[u32]) -> Result<(), JoinFault>
+    /// Adds a copy of a tuple to the fresh ones.
+    fn add_copy(&mut self, tuple: &[u32]) -> Result<(), JoinFault>
         requires valid { IsGathered self.old }
         requires width { length tuple.now ≡ self.old.known.width }
         ensures ok { OnOk result (Gathers (λ t. t ≡ tuple.now) self.old self.new) }
@@ -179,7 +201,18 @@ impl Gathered {
             (λ t. Has self.old t ⊎ (t ≡ tuple.now)) }
     {
         let copy = copied(self.alloc, tuple)?;
-        self.push_fresh(copy)?;
+        self.add_fresh(copy)
+    }
+
+    /// Adds a tuple to the fresh ones, which are made known where they are as many as these.
+    fn add_fresh(&mut self, tuple: Vec<u32>) -> Result<(), JoinFault>
+        requires valid { IsGathered self.old }
+        requires width { length tuple.items ≡ self.old.known.width }
+        ensures ok { OnOk result (Gathers (λ t. t ≡ tuple.items) self.old self.new) }
+        ensures many { result ≡ Err JoinFault.TooMany → AreMoreThan self.old.limit
+            (λ t. Has self.old t ⊎ (t ≡ tuple.items)) }
+    {
+        self.push_fresh(tuple)?;
         if (self.fresh.len() as u64) < self.known.len().max(BATCH) {
             return Ok(());
         }

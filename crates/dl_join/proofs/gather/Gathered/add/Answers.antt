@@ -13,11 +13,10 @@ returns-in_err-begin-clause-many c = λ e.
 
 pub returns-clause-ok : goal.returns-clause-ok
 returns-clause-ok c =
-    let is = rw c.as_slice-2.ensures.value at c.add_tuple.ensures.ok in
-    ok_after (λ t. t ≡ map name_or_zero c.args.head.now) c.args.self.now c.begin.new.self c.add_tuple.new.self c.add_tuple.result c.in_ok-begin.ensures.ok
-    (ok_same c.in_ok-tuple.tuple.items (map name_or_zero c.args.head.now) c.begin.new.self c.add_tuple.new.self c.add_tuple.result c.in_ok-tuple.ensures is)
+    ok_after (λ t. t ≡ map name_or_zero c.args.head.now) c.args.self.now c.begin.new.self c.add_own.new.self c.add_own.result c.in_ok-begin.ensures.ok
+    (ok_same c.in_ok-tuple.tuple.items (map name_or_zero c.args.head.now) c.begin.new.self c.add_own.new.self c.add_own.result c.in_ok-tuple.ensures c.add_own.ensures.ok)
 
 pub returns-clause-many : goal.returns-clause-many
 returns-clause-many c = λ e.
     over_after (λ t. t ≡ map name_or_zero c.args.head.now) c.args.self.now c.begin.new.self c.in_ok-begin.ensures.ok
-    (rw (c.as_slice-2.ensures.value, c.in_ok-tuple.ensures) at (c.add_tuple.ensures.many e))
+    (rw c.in_ok-tuple.ensures at (c.add_own.ensures.many e))

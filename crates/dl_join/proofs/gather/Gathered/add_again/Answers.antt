@@ -24,5 +24,5 @@ pub returns-clause-many : goal.returns-clause-many
 returns-clause-many c = λ e.
     let s = c.args.self.now in
     let is : IsSetOf tuple_cmp c.set_of-set.result s.fresh = rw c.replace-fresh.ensures.value at c.set_of-set.ensures in
-    let b : Gathered = record { alloc = s.alloc; limit = s.limit; known = s.known; fresh = c.replace-fresh.new.dest; last = s.last; in_order = s.in_order } in
+    let b : Gathered = record { alloc = s.alloc; limit = s.limit; known = s.known; fresh = c.replace-fresh.new.dest; last = s.last; in_order = s.in_order; grouped = s.grouped } in
     over_again_all s b c.set_of-set.result is refl (rw c.new.ensures at c.replace-fresh.ensures.after) refl (rw c.as_slice.ensures at (c.add_all.ensures.many e))
