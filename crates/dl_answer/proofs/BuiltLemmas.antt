@@ -1,5 +1,5 @@
 -- What is built from axioms within the limits: their normal form, and the predicates of their hierarchy.
-use Rattle.std.proofs.Common.{◌≡◌, ℕ, ◌+◌, ◌<◌, ◌≤◌, ◌^◌, List, [], ◌∷◌, length, arith}
+use Rattle.std.proofs.Common.{◌≡◌, ◌+◌, ◌<◌, ◌≤◌, ◌^◌, List, [], ◌∷◌, length, refl, arith}
 use Rattle.std.specs.List.{All}
 use Rattle.std.proofs.lemmas.List.Sums.{sum_by-cons}
 use Rattle.std.proofs.lemmas.List.Elements.{All-weaker}
@@ -13,7 +13,12 @@ use Rattle.dl_normal.specs.Weight.{axiom_weight, total_weight}
 use Rattle.dl_hier.specs.Predicates.{Predicates}
 use Rattle.dl_hier.specs.Rows.{HasInclusions, ArePredicatesOf}
 use Rattle.dl_answer.specs.Facts.{HasPredicate, HasPredicates}
-use Rattle.dl_answer.specs.Replies.{normal_form, max_weight}
+use Rattle.dl_hier.specs.Rows.{HasNames, AreFew}
+use Rattle.dl_terms.specs.Fillers.{HasNoFiller}
+use Rattle.dl_epoch.specs.Known.{IsAxiomIn, ArePredicatesFew, max_weight}
+use Rattle.dl_epoch.proofs.KnownLemmas.{has_names}
+use Rattle.dl_epoch.proofs.FewLemmas.{are_few}
+use Rattle.dl_answer.specs.Replies.{normal_form}
 
 -- axioms of a weight are no more than it
 pub length_by_weight : (axioms : List Axiom) → length axioms ≤ total_weight axioms
@@ -28,6 +33,18 @@ few_axioms axioms h = omega (arith, length_by_weight axioms)
 
 pub normal_is : (axioms : List Axiom) (normal : Normal) → IsNormalForm axioms normal → normal ≡ normal_form axioms
 normal_is axioms normal is = λ i. record { roles = is.roles i; concepts = is.concepts i; negatives = is.negatives i }
+
+is_normal : (axioms : List Axiom) → IsNormalForm axioms (normal_form axioms)
+is_normal axioms = record { roles = refl; concepts = refl; negatives = refl }
+
+-- the signature has the names of the normal form, and they are few
+pub names_known : (signature : Signature) (axioms : List Axiom) → All (IsAxiomIn signature) axioms
+    → HasNames signature (normal_form axioms)
+names_known signature axioms known = has_names signature axioms (normal_form axioms) known (is_normal axioms)
+
+pub names_few : (signature : Signature) (axioms : List Axiom) → All HasNoFiller axioms
+    → ArePredicatesFew signature axioms → AreFew signature (normal_form axioms)
+names_few signature axioms plain few = are_few signature axioms (normal_form axioms) plain few (is_normal axioms)
 
 pub inclusions_of : (axioms : List Axiom) (normal : Normal) → IsNormalForm axioms normal → HasInclusions axioms normal
 inclusions_of axioms normal is = record { roles = is.roles; concepts = is.concepts }

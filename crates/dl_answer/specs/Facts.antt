@@ -1,9 +1,11 @@
--- Facts by predicate, and the pairs of those below what is asked.
-use Rattle.std.specs.Prelude.{◌≡◌, ℕ, ◌==◌, ◌↔◌, Bool, true, false, filter, List, ◌++◌, map}
+-- Facts by predicate, how many there may be, and the pairs of those below what is asked.
+use Rattle.std.specs.Prelude.{◌≡◌, ℕ, ◌≤◌, ◌==◌, ◌↔◌, Bool, true, false, filter, List, length, ◌++◌, map}
 use Rattle.std.specs.List.{All, Contains, flat_map}
 use Rattle.std.specs.List.Sorted.{IsNonDecreasingBy}
 use Rattle.std.specs.declared.option.Option.{Option}
 use Rattle.std.specs.declared.option.Option.TheVariants.{Some, None}
+use Rattle.dl_terms.specs.Order.{fact_cmp}
+use Rattle.dl_terms.specs.Sets.{IsSetOf}
 use Rattle.dl_terms.specs.declared.axiom.Fact.{Fact}
 use Rattle.dl_terms.specs.declared.axiom.Fact.TheVariants.{Is, Link}
 use Rattle.dl_terms.specs.declared.axiom.Signature.{Signature}
@@ -17,6 +19,14 @@ HasPredicate classes roles (Link p a b) = Contains roles p
 -- a signature has the predicates of all facts
 abbrev pub HasPredicates : Signature → List Fact → Type 0
 HasPredicates signature facts = All (HasPredicate signature.classes signature.roles) facts
+
+-- the most different facts that there may be
+abbrev pub max_facts : ℕ
+max_facts = 4194304
+
+-- the facts are few, each counted once
+abbrev pub HasFewFacts : List Fact → Type 0
+HasFewFacts facts = (set : List Fact) → IsSetOf fact_cmp set facts → length set ≤ max_facts
 
 -- the pair of a fact whose predicate is below what is asked: of a class fact its individual twice, of a role fact
 -- its two ends, turned where the inverse of its role is below

@@ -25,10 +25,6 @@ normal_form axioms = record {
   negatives = negatives_by_index axioms;
 }
 
--- the greatest weight of axioms
-abbrev pub max_weight : ℕ
-max_weight = 65536
-
 -- the reply and the version that an answer tells
 abbrev pub reply_of : Answer → Reply
 reply_of (Found version tuples) = found tuples.tuples

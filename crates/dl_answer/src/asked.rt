@@ -1,7 +1,11 @@
 // A query asked of lists of axioms and facts.
 ghost use Rattle.std.specs.Prelude.{◌≡◌, ◌≤◌, ℕ, List as Items, Option as Maybe, IfOk};
+ghost use Rattle.std.specs.List.{All};
+ghost use Rattle.std.specs.List.Sorted.{IsStrictlySortedBy};
 ghost use Rattle.dl_terms.specs.Answers.{IsCertain};
 ghost use Rattle.dl_terms.specs.Broken.{NothingIsBroken};
+ghost use Rattle.dl_terms.specs.Fillers.{HasNoFiller};
+ghost use Rattle.dl_terms.specs.Order.{axiom_cmp};
 ghost use Rattle.dl_terms.specs.Queries.{IsWellFormed};
 ghost use Rattle.dl_terms.specs.declared.axiom.Axiom.{Axiom};
 ghost use Rattle.dl_terms.specs.declared.axiom.Fact.{Fact};
@@ -11,8 +15,9 @@ ghost use Rattle.dl_hier.specs.Predicates.{roles};
 ghost use Rattle.dl_hier.specs.Hierarchy.{IsHierarchyOf};
 ghost use Rattle.dl_hier.specs.Rows.{HasNames, AreFew, ArePredicatesOf};
 ghost use Rattle.dl_rewrite.specs.Known.{HasRolesOf};
-ghost use Rattle.dl_answer.specs.Facts.{HasPredicates};
-ghost use Rattle.dl_answer.specs.Replies.{normal_form, max_weight, RepliesTo, GivesTuples};
+ghost use Rattle.dl_epoch.specs.Known.{IsSignature, IsAxiomIn, ArePredicatesFew, max_weight};
+ghost use Rattle.dl_answer.specs.Facts.{HasPredicates, HasFewFacts};
+ghost use Rattle.dl_answer.specs.Replies.{normal_form, RepliesTo, GivesTuples};
 ghost use Rattle.dl_answer.specs.Verdicts.{fault_of};
 
 use crate::broken::{Verdict, first_broken};
@@ -29,8 +34,10 @@ use std::alloc::Global;
 /// version 1. `TooMany` comes exactly where no axiom is broken and there are more certain answers than the limit;
 /// `NoPin` never comes. `nothing` is the number of `owl:Nothing`, or None where that is no name.
 ///
-/// The signature has the names of the axioms, and the predicates are few: `fits` of `dl_hier` tests both. It has the
-/// predicates of the facts: `has_predicates` tests that, and `weight` of `dl_normal` gives the weight.
+/// The axioms ascend strictly in axiom order and have no filler. The signature has all their names, and each of its
+/// lists ascends strictly. The axioms weigh at most 65,536, and the names of the signature and the fillers are at most
+/// 4,096. The signature has the predicates of the facts: `has_predicates` tests that. There are at most 4,194,304
+/// different facts; they may stand in any order and be repeated.
 pub fn ask_facts(
     alloc: Global,
     axioms: &[Axiom],
@@ -40,10 +47,14 @@ pub fn ask_facts(
     limit: u64,
     nothing: Option<u32>,
 ) -> Result<Answer, AskFault>
-    requires names { HasNames signature.now (normal_form axioms.now) }
-    requires few { AreFew signature.now (normal_form axioms.now) }
+    requires ascending { IsStrictlySortedBy axiom_cmp axioms.now }
+    requires no_filler { All HasNoFiller axioms.now }
+    requires known { All (IsAxiomIn signature.now) axioms.now }
+    requires signature { IsSignature signature.now }
     requires weight { total_weight axioms.now ≤ max_weight }
+    requires few { ArePredicatesFew signature.now axioms.now }
     requires predicates { HasPredicates signature.now facts.now }
+    requires few_facts { HasFewFacts facts.now }
     requires query { IsWellFormed query.now }
     ensures { RepliesTo axioms.now facts.now nothing query.now limit 1 result }
 {

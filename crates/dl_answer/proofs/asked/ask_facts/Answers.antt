@@ -1,8 +1,15 @@
 use Rattle.std.proofs.Common.{refl}
 use Rattle.dl_answer.specs.Replies.{normal_form}
 use Rattle.dl_answer.proofs.BrokenLemmas.{broken_reply, sound_reply}
-use Rattle.dl_answer.proofs.BuiltLemmas.{few_axioms, known_predicates}
+use Rattle.dl_answer.proofs.BuiltLemmas.{few_axioms, known_predicates, names_known, names_few}
 use Rattle.dl_answer.proofs.asked.ask_facts.Goals as goal
+
+pub hier_of-requires-clause-names : goal.hier_of-requires-clause-names
+hier_of-requires-clause-names c = names_known c.args.signature.now c.args.axioms.now c.requires.known
+
+pub hier_of-requires-clause-few : goal.hier_of-requires-clause-few
+hier_of-requires-clause-few c =
+    names_few c.args.signature.now c.args.axioms.now c.requires.no_filler c.requires.few
 
 pub first_broken-requires : goal.first_broken-requires
 first_broken-requires c = few_axioms c.args.axioms.now c.requires.weight
