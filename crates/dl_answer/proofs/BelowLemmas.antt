@@ -21,7 +21,8 @@ use Rattle.dl_terms.proofs.StructureLemmas.{individual-child}
 use Rattle.dl_hier.specs.Hierarchy.{Hierarchy, IsHierarchyOf}
 use Rattle.dl_hier.specs.Below.{IsBelowOneOf, AreThose}
 use Rattle.dl_hier.specs.declared.below.Below.{Below}
-use Rattle.dl_answer.specs.Facts.{HasPredicate, IsPairBelow, member, plain, turned}
+use Rattle.dl_scan.specs.Pairs.{IsPairBelow, member, plain, turned}
+use Rattle.dl_answer.specs.Facts.{HasPredicate}
 use Rattle.dl_rewrite.specs.OverNames.{HoldsOneOf}
 use Rattle.dl_answer.specs.Probes.{AreBelowProbe}
 

@@ -30,10 +30,10 @@ use Rattle.dl_join.specs.Tuples.{AreExactly}
 use Rattle.dl_join.proofs.OrderLemmas.{pair_linear}
 use Rattle.dl_rewrite.specs.OverNames.{HasOverNames, SomeHasOverNames}
 use Rattle.dl_rewrite.specs.Shape.{IsShapedFor}
-use Rattle.dl_answer.specs.Facts.{all_pairs}
 use Rattle.dl_answer.specs.OverNames.{HoldsAlike}
-use Rattle.dl_answer.specs.Probes.{AreBelowProbe, AreBehind}
+use Rattle.dl_answer.specs.Probes.{AreBelowProbe, AreBehind, facts_in}
 use Rattle.dl_answer.specs.declared.index.FactsByPredicate.{FactsByPredicate}
+use Rattle.dl_answer.proofs.FactLemmas.{pairs_exist}
 use Rattle.dl_answer.proofs.TupleLemmas.{Decided, picked, some_decided, set_exists, exactly_exists, exactly_none, union_exists}
 use Rattle.dl_answer.proofs.StepLemmas.{holds_alike, exactly_over, exactly_same}
 
@@ -148,9 +148,14 @@ module _ (axioms : List Axiom) (facts : List Fact) (h : Hierarchy) (index : Fact
   list_exists : (probe : Probe) → (pairs : List (ℕ × ℕ)) × HoldsAlike axioms facts probe pairs
   list_exists probe =
       let below = below_exists axioms h behind.hierarchy probe in
-      let set = set_exists pair_linear (all_pairs index.classes.items index.roles.items below.0) in (
+      let all = pairs_exist (facts_in index) below.0 in
+      let set = set_exists pair_linear all.0 in (
         set.0,
-        holds_alike axioms facts h index behind below.0 set.0 record { ascending = set.1; members = set.2 }
+        holds_alike axioms facts h index behind below.0 set.0
+            record {
+              ascending = set.1;
+              exact = λ p. (λ c. (all.1 p).0 ((set.2 p).0 c), λ b. (set.2 p).1 ((all.1 p).1 b));
+            }
             probe below.1,
       )
 

@@ -2,6 +2,7 @@ pub mod NameLemmas
 pub mod BuiltLemmas
 pub mod TupleLemmas
 pub mod FactLemmas
+pub mod RowLemmas
 pub mod BelowLemmas
 pub mod StepLemmas
 pub mod DecidedLemmas

@@ -1,14 +1,10 @@
--- What the functions of this crate need, step by step: entries, lists of probes, and tuples.
-use Rattle.std.proofs.Common.{◌≡◌, ℕ, Result, Ok, Err, ◌+◌, ◌<◌, ◌≤◌, ◌↔◌, ◌⊎◌, inl, inr, List, [], ◌∷◌, ◌++◌, length, take, get_or, refl, sym, ap, subst, ◌∙◌, arith}
+-- What the functions of this crate need, step by step: lists of probes, and tuples.
+use Rattle.std.proofs.Common.{◌≡◌, ℕ, Result, Ok, Err, ◌+◌, ◌<◌, ◌≤◌, ◌↔◌, List, [], ◌∷◌, ◌++◌, length, take, get_or, refl, sym, ap, subst, ◌∙◌, arith}
 use Rattle.std.specs.Ordering.{is_lt, ordering_reverse}
-use Rattle.std.specs.List.{Contains, filter_map, cons_option}
-use Rattle.std.specs.List.Sorted.{IsNonDecreasingBy, IsPermutation, IsSorted, IsStrictlySortedBy}
-use Rattle.std.specs.declared.option.Option.{Option}
-use Rattle.std.specs.declared.option.Option.TheVariants.{Some, None}
+use Rattle.std.specs.List.{Contains}
+use Rattle.std.specs.List.Sorted.{IsSorted, IsStrictlySortedBy}
 use Rattle.std.proofs.lemmas.List.{take_more, get_or_default, length_push}
 use Rattle.std.proofs.lemmas.List.Elements.{All-push, All-weaker, Contains-get_or}
-use Rattle.std.proofs.lemmas.List.Sorted.{Contains-permutation, IsPermutation-sym}
-use Rattle.dl_terms.specs.Sets.{IsSetOf}
 use Rattle.std.specs.Prelude.{IfOk}
 use Rattle.dl_terms.specs.Table.{Table}
 use Rattle.dl_terms.specs.declared.axiom.Axiom.{Axiom}
@@ -16,7 +12,6 @@ use Rattle.dl_terms.specs.declared.axiom.Fact.{Fact}
 use Rattle.dl_terms.specs.declared.query.Probe.{Probe}
 use Rattle.dl_terms.specs.declared.query.Probe.TheVariants.{AnyOf, Joined}
 use Rattle.dl_terms.specs.declared.query.Disjunct.{Disjunct}
-use Rattle.dl_terms.proofs.MemberLemmas.{Contains-nil, Contains-first, Contains-later, Contains-cons}
 use Rattle.dl_hier.specs.Hierarchy.{Hierarchy}
 use Rattle.dl_hier.specs.declared.below.Below.{Below}
 use Rattle.dl_join.specs.Disjuncts.{name_of, pair_cmp, IsTuple, IsSafe}
@@ -26,66 +21,17 @@ use Rattle.dl_join.specs.declared.fault.JoinFault.TheVariants.{TooMany, NoMemory
 use Rattle.dl_join.proofs.JoinLemmas.{each_push}
 use Rattle.dl_join.proofs.MergeLemmas.{sorted_at}
 use Rattle.dl_join.proofs.OrderLemmas.{pair_linear}
-use Rattle.dl_answer.specs.Facts.{IsPairBelow, Entry, AreEntries, all_pairs}
+use Rattle.dl_scan.specs.Pairs.{IsPairBelow}
+use Rattle.dl_scan.proofs.BelowLemmas.{pair-more}
 use Rattle.dl_rewrite.specs.OverNames.{ProbeHolds, HasOverNames}
 use Rattle.dl_answer.specs.OverNames.{HoldsAlike, AreBelow}
-use Rattle.dl_answer.specs.Probes.{AreBelowProbe, AreBehind, AreListsOf}
+use Rattle.dl_answer.specs.Probes.{AreBelowProbe, AreBehind, AreListsOf, ArePairsBelow, facts_in}
 use Rattle.dl_answer.specs.Replies.{AreOver, GivesTuples}
 use Rattle.dl_answer.specs.declared.index.FactsByPredicate.{FactsByPredicate}
 use Rattle.dl_answer.proofs.BelowLemmas.{holds_by_pair, pair_of_held, joins_by_pair, pair_of_joined}
-use Rattle.dl_answer.proofs.FactLemmas.{pairs_below}
 use Rattle.dl_answer.proofs.TupleLemmas.{exactly_exists, over_exactly}
 
--- ---- entries
-
--- what a list gives comes from one of its items
-Contains-filter_map : {A B : Type 0} (f : A → Option B) (xs : List A) (y : B) → Contains (filter_map f xs) y
-    → (x : A) × Contains xs x × (f x ≡ Some y)
-Contains-filter_map f [] y h = absurd (Contains-nil y h)
-Contains-filter_map {A} {B} f (x ∷ xs) y h = by (Contains-filter_map f xs y) (f x) refl h
-  where
-    by : (Contains (filter_map f xs) y → (z : A) × Contains xs z × (f z ≡ Some y)) → (o : Option B) → f x ≡ o
-        → Contains (cons_option o (filter_map f xs)) y → (z : A) × Contains (x ∷ xs) z × (f z ≡ Some y)
-    by rec None e g = let r = rec g in (r.0, Contains-later x r.0 xs r.1, r.2)
-    by rec (Some w) e g = elim (Contains-cons w y (filter_map f xs) g) [
-      | inl same ↦ (x, Contains-first x xs, e ∙ ap Some same)
-      | inr rest ↦ let r = rec rest in (r.0, Contains-later x r.0 xs r.1, r.2)
-    ]
-
-Contains-filter_map_of : {A B : Type 0} (f : A → Option B) (xs : List A) (x : A) (y : B) → Contains xs x
-    → f x ≡ Some y → Contains (filter_map f xs) y
-Contains-filter_map_of f [] x y h is = absurd (Contains-nil x h)
-Contains-filter_map_of {A} {B} f (z ∷ xs) x y h is = by (λ k. Contains-filter_map_of f xs x y k is) (f z) refl
-    (Contains-cons z x xs h)
-  where
-    by : (Contains xs x → Contains (filter_map f xs) y) → (o : Option B) → f z ≡ o → (z ≡ x) ⊎ Contains xs x
-        → Contains (cons_option o (filter_map f xs)) y
-    by rec None e (inl same) = let both : None ≡ Some y = sym e ∙ ap f same ∙ is in cc
-    by rec None e (inr rest) = rec rest
-    by rec (Some w) e (inl same) =
-        let both : Some w ≡ Some y = sym e ∙ ap f same ∙ is in
-        let here : w ≡ y = cc in
-        subst (λ v. Contains (w ∷ filter_map f xs) v) here (Contains-first w (filter_map f xs))
-    by rec (Some w) e (inr rest) = Contains-later w y (filter_map f xs) (rec rest)
-
--- sorted, what a list of facts gives are its entries
-pub entries_of : (entry_of : Fact → Option Entry) (facts : List Fact) (found entries : List Entry)
-    → found ≡ filter_map entry_of facts
-    → IsPermutation found entries → IsNonDecreasingBy (λ e. e.0) entries → AreEntries entry_of facts entries
-entries_of entry_of facts found entries is moved up = record {
-  ascending = up;
-  exact = λ e. (
-    λ c. Contains-filter_map entry_of facts e
-        (subst (λ l. Contains l e) is (Contains-permutation entries found e (IsPermutation-sym found entries moved) c)),
-    λ h. Contains-permutation found entries e moved
-        (subst (λ l. Contains l e) (sym is) (Contains-filter_map_of entry_of facts h.0 e h.1 h.2)),
-  );
-}
-
--- the pairs of three kinds of runs, one behind the other
-pub three_runs : (none one two all x y z : List (ℕ × ℕ)) → none ≡ [] → one ≡ none ++ x → two ≡ one ++ y
-    → all ≡ two ++ z → all ≡ (x ++ y) ++ z
-three_runs none one two all x y z empty e f g = g ∙ ap (λ l. l ++ z) (f ∙ ap (λ l. l ++ y) (e ∙ ap (λ l. l ++ x) empty))
+-- ---- a probe over its pairs
 
 -- a set of pairs is sorted
 pub pairs_sorted : (pairs : List (ℕ × ℕ)) → IsStrictlySortedBy pair_cmp pairs → IsSorted pair_cmp pairs
@@ -93,19 +39,16 @@ pairs_sorted pairs up = λ k d low h.
     let less = sorted_at pair_cmp pairs k (k + 1) d up (omega arith) h in
     ap is_lt (pair_linear.total.antisymm (get_or pairs (k + 1) d) (get_or pairs k d) ∙ ap ordering_reverse less)
 
--- ---- a probe over its pairs
-
 module _ (axioms : List Axiom) (facts : List Fact) (h : Hierarchy) (index : FactsByPredicate)
     (behind : AreBehind h index axioms facts) (below : Below) (pairs : List (ℕ × ℕ))
-    (set : IsSetOf pair_cmp pairs (all_pairs index.classes.items index.roles.items below)) where
+    (are : ArePairsBelow index below pairs) where
   pair_below : (p : ℕ × ℕ) → Contains pairs p → IsPairBelow facts below p
-  pair_below p c = (pairs_below facts index.classes.items index.roles.items behind.indexed.classes
-      behind.indexed.roles below p).0 ((set.members p).0 c)
+  pair_below p c =
+      pair-more (facts_in index) facts below p (λ f. (behind.indexed.same f).0) ((are.exact p).0 c)
 
   below_pair : (p : ℕ × ℕ) → IsPairBelow facts below p → Contains pairs p
-  below_pair p b = (set.members p).1
-      ((pairs_below facts index.classes.items index.roles.items behind.indexed.classes behind.indexed.roles below
-      p).1 b)
+  below_pair p b =
+      (are.exact p).1 (pair-more facts (facts_in index) below p (λ f. (behind.indexed.same f).1) b)
 
   -- over the pairs of the facts below it a probe holds exactly where it holds over axioms and facts
   pub holds_alike : (probe : Probe) → AreBelowProbe axioms h.predicates probe below

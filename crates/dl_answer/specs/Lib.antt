@@ -1,5 +1,6 @@
 pub mod OverNames
 pub mod Facts
+pub mod Rows
 pub mod Replies
 pub mod Probes
 pub mod Kept

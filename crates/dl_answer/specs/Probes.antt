@@ -1,7 +1,7 @@
 -- What is below a probe, and the lists of pairs of probes, for private functions.
-use Rattle.std.specs.Prelude.{◌≡◌, ℕ, ◌<◌, List, [], length, slice_index_or}
-use Rattle.std.specs.List.{All}
-use Rattle.std.specs.List.Sorted.{IsSorted}
+use Rattle.std.specs.Prelude.{◌≡◌, ◌↔◌, ℕ, ◌<◌, List, [], length, map, slice_index_or}
+use Rattle.std.specs.List.{All, Contains}
+use Rattle.std.specs.List.Sorted.{IsSorted, IsStrictlySortedBy}
 use Rattle.dl_terms.specs.declared.role.Basic.{Basic}
 use Rattle.dl_terms.specs.Roles.{named, inverse_of}
 use Rattle.dl_terms.specs.Below.{RoleBelow}
@@ -16,7 +16,9 @@ use Rattle.dl_hier.specs.Below.{IsBelowOneOf, AreThose}
 use Rattle.dl_hier.specs.declared.below.Below.{Below}
 use Rattle.dl_join.specs.Disjuncts.{pair_cmp, AreSorted}
 use Rattle.dl_rewrite.specs.Known.{HasRolesOf}
-use Rattle.dl_answer.specs.Facts.{HasPredicate, AreEntries, class_entry, role_entry}
+use Rattle.dl_epoch.specs.Covering.{epoch_in}
+use Rattle.dl_scan.specs.Pairs.{IsPairBelow, visible_facts}
+use Rattle.dl_answer.specs.Facts.{HasPredicate}
 use Rattle.dl_answer.specs.OverNames.{HoldsAlike}
 use Rattle.dl_answer.specs.declared.index.FactsByPredicate.{FactsByPredicate}
 
@@ -30,10 +32,18 @@ AreBelowProbe axioms p (Joined role t u) below =
     (below.classes ≡ []) × AreThose p.properties (λ r. RoleBelow axioms (named r) (named role)) below.forward
     × AreThose p.properties (λ r. RoleBelow axioms (inverse_of (named r)) (named role)) below.backward
 
+-- the facts that the rows of an index stand for at version 1
+abbrev pub facts_in : FactsByPredicate → List Fact
+facts_in index = visible_facts (map epoch_in index.epochs) 1 index.shard
+
 -- an index has exactly some facts
 pub record IsIndexOf (facts : List Fact) (index : FactsByPredicate) : Type 0 where
-  pub classes : AreEntries class_entry facts index.classes.items
-  pub roles : AreEntries role_entry facts index.roles.items
+  pub same : (f : Fact) → Contains (facts_in index) f ↔ Contains facts f
+
+-- exactly the pairs of the facts of an index below what is asked, ascending
+pub record ArePairsBelow (index : FactsByPredicate) (below : Below) (pairs : List (ℕ × ℕ)) : Type 0 where
+  pub ascending : IsStrictlySortedBy pair_cmp pairs
+  pub exact : (p : ℕ × ℕ) → Contains pairs p ↔ IsPairBelow (facts_in index) below p
 
 -- a hierarchy is that of the axioms, with their roles, and has the predicates of the facts, which an index has
 pub record AreBehind (h : Hierarchy) (index : FactsByPredicate) (axioms : List Axiom) (facts : List Fact) : Type 0 where

@@ -1,5 +1,6 @@
 // A query asked of lists of axioms and facts.
 ghost use Rattle.std.specs.Prelude.{◌≡◌, ◌≤◌, ℕ, List as Items, Option as Maybe, IfOk};
+ghost use Rattle.std.specs.Arc.{arc_value};
 ghost use Rattle.std.specs.List.{All};
 ghost use Rattle.std.specs.List.Sorted.{IsStrictlySortedBy};
 ghost use Rattle.dl_terms.specs.Answers.{IsCertain};
@@ -11,24 +12,20 @@ ghost use Rattle.dl_terms.specs.declared.axiom.Axiom.{Axiom};
 ghost use Rattle.dl_terms.specs.declared.axiom.Fact.{Fact};
 ghost use Rattle.dl_terms.specs.declared.query.Query.{Query};
 ghost use Rattle.dl_normal.specs.Weight.{total_weight};
-ghost use Rattle.dl_hier.specs.Predicates.{roles};
-ghost use Rattle.dl_hier.specs.Hierarchy.{IsHierarchyOf};
-ghost use Rattle.dl_hier.specs.Rows.{HasNames, AreFew, ArePredicatesOf};
-ghost use Rattle.dl_rewrite.specs.Known.{HasRolesOf};
 ghost use Rattle.dl_epoch.specs.Known.{IsSignature, IsAxiomIn, ArePredicatesFew, max_weight};
 ghost use Rattle.dl_answer.specs.Facts.{HasPredicates, HasFewFacts};
-ghost use Rattle.dl_answer.specs.Replies.{normal_form, RepliesTo, GivesTuples};
+ghost use Rattle.dl_answer.specs.Replies.{RepliesTo, GivesTuples};
 ghost use Rattle.dl_answer.specs.Verdicts.{fault_of};
 
 use crate::broken::{Verdict, first_broken};
 use crate::certain::certain;
 use crate::facts::by_predicate;
 use crate::{Answer, AskFault};
-use dl_hier::Hier;
+use dl_epoch::Epoch;
 use dl_join::JoinFault;
-use dl_normal::normal;
 use dl_terms::{Axiom, Fact, NoMemory, Query, Signature, Tuples};
 use std::alloc::Global;
+use std::sync::Arc;
 
 /// The defined reply to a query over lists of axioms and facts: the first broken axiom, or else the certain answers, at
 /// version 1. `TooMany` comes exactly where no axiom is broken and there are more certain answers than the limit;
@@ -58,12 +55,13 @@ pub fn ask_facts(
     requires query { IsWellFormed query.now }
     ensures { RepliesTo axioms.now facts.now nothing query.now limit 1 result }
 {
-    let hier = hier_of(alloc, axioms, signature)?;
-    let facts = by_predicate(alloc, facts)?;
-    let verdict = first_broken(alloc, &hier, &facts, axioms, nothing)?;
+    let epoch = epoch_of(alloc, axioms, signature)?;
+    let facts = by_predicate(alloc, Arc::try_clone(&epoch)?, facts)?;
+    let hier = epoch.hier();
+    let verdict = first_broken(alloc, hier, &facts, axioms, nothing)?;
     match verdict {
         Verdict::Broken(axiom) => Ok(Answer::Inconsistent { version: 1, axiom }),
-        Verdict::Sound => told(certain(alloc, &hier, &facts, query, limit)),
+        Verdict::Sound => told(certain(alloc, hier, &facts, query, limit)),
     }
 }
 
@@ -89,15 +87,24 @@ fn fault_of(fault: JoinFault) -> AskFault
     }
 }
 
-/// The hierarchy of axioms, over the predicates of a signature.
-fn hier_of(alloc: Global, axioms: &[Axiom], signature: &Signature) -> Result<Hier, NoMemory>
-    requires names { HasNames signature.now (normal_form axioms.now) }
-    requires few { AreFew signature.now (normal_form axioms.now) }
+/// The epoch of axioms and a signature, with the id 1.
+fn epoch_of(
+    alloc: Global,
+    axioms: &[Axiom],
+    signature: &Signature,
+) -> Result<Arc<Epoch, Global>, NoMemory>
+    requires ascending { IsStrictlySortedBy axiom_cmp axioms.now }
+    requires no_filler { All HasNoFiller axioms.now }
+    requires known { All (IsAxiomIn signature.now) axioms.now }
+    requires signature { IsSignature signature.now }
     requires weight { total_weight axioms.now ≤ max_weight }
-    ensures hierarchy { IfOk result (λ h. IsHierarchyOf h axioms.now) }
-    ensures roles { IfOk result (λ h. HasRolesOf axioms.now (roles h.predicates)) }
-    ensures predicates { IfOk result (λ h. ArePredicatesOf signature.now (normal_form axioms.now) h.predicates) }
+    requires few { ArePredicatesFew signature.now axioms.now }
+    ensures axioms { IfOk result (λ e. (arc_value e).axioms ≡ axioms.now) }
+    ensures signature { IfOk result (λ e. (arc_value e).signature ≡ signature.now) }
 {
-    let normal = normal(alloc, axioms)?;
-    Hier::build(alloc, &normal, signature)
+    let epoch = Epoch::build(alloc, 1, axioms, signature)?;
+    match Arc::new(alloc, epoch) {
+        Ok(epoch) => Ok(epoch),
+        Err(_) => Err(NoMemory),
+    }
 }

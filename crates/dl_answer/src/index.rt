@@ -1,16 +1,10 @@
-// Facts by predicate.
-ghost use Rattle.std.specs.List.Sorted.{IsNonDecreasingBy};
+// Facts as rows.
+use dl_epoch::Epochs;
+use dl_row::PlainShard;
 
-use dl_terms::Pair;
-
-/// A predicate and the pair of a fact.
-pub(crate) type Entry = (u32, Pair);
-
-/// Facts in the order of their predicates: those of classes, and those of roles.
+/// Facts as the rows of one shard, and the one epoch that they carry, which covers every version from 1 on.
 #[derive(Drop)]
 pub(crate) struct FactsByPredicate {
-    pub classes: Vec<Entry>,
-    pub roles: Vec<Entry>,
-    ghost classes_ascend: { IsNonDecreasingBy (λ e. e.0) classes.items },
-    ghost roles_ascend: { IsNonDecreasingBy (λ e. e.0) roles.items },
+    pub epochs: Epochs,
+    pub shard: PlainShard,
 }

@@ -84,7 +84,7 @@ pub(crate) fn list_of(
     ensures { IfOk result (IsListOf hier.now facts.now probe.now) }
 {
     let below = below_of(alloc, hier, probe)?;
-    pairs_below(alloc, facts, &below)
+    pairs_below(alloc, facts, below)
 }
 
 /// The predicates below the basic concepts or the role of a probe.

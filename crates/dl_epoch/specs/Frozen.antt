@@ -9,7 +9,10 @@ use Rattle.dl_terms.specs.Roles.{named}
 use Rattle.dl_terms.specs.declared.role.Basic.TheVariants as basic
 use Rattle.dl_terms.specs.declared.axiom.Axiom.{Axiom}
 use Rattle.dl_terms.specs.declared.axiom.Signature.{Signature}
+use Rattle.dl_terms.specs.declared.role.Normal.{Normal}
+use Rattle.dl_normal.specs.Indexed.{IsNormalForm}
 use Rattle.dl_hier.specs.Hierarchy.{Hierarchy, IsHierarchyOf}
+use Rattle.dl_hier.specs.Rows.{ArePredicatesOf}
 use Rattle.dl_numbers.specs.Rule.{IsByRule}
 use Rattle.dl_row.specs.Rows.{Epoch}
 use Rattle.dl_epoch.specs.Known.{IsSignature, IsAxiomIn}
@@ -37,11 +40,12 @@ pub record IsFrozen (e : Frozen) : Type 0 where
       IsByRule e.signature.classes (λ c d. ConceptBelow e.axioms (basic.Class c) (basic.Class d)) e.classes
   pub role_numbers : IsByRule e.signature.roles (λ p q. RoleBelow e.axioms (named p) (named q)) e.roles
 
--- its hierarchy is that of its axioms, over the names of its signature
+-- its hierarchy is that of its axioms, over the names of its signature and the fillers of the normal form
 pub record IsHierarchyIn (e : Frozen) (h : Hierarchy) : Type 0 where
   pub below : IsHierarchyOf h e.axioms
   pub classes : h.predicates.classes ≡ e.signature.classes
   pub roles : h.predicates.properties ≡ e.signature.roles
+  pub predicates : (normal : Normal) → IsNormalForm e.axioms normal → ArePredicatesOf e.signature normal h.predicates
 
 -- the epoch of rows that covers versions from a first one on
 abbrev pub from_version : ℕ → Frozen → Epoch

@@ -5,7 +5,10 @@ ghost use Rattle.std.specs.List.Sorted.{IsStrictlySortedBy};
 ghost use Rattle.dl_terms.specs.Fillers.{HasNoFiller};
 ghost use Rattle.dl_terms.specs.Order.{axiom_cmp};
 ghost use Rattle.dl_normal.specs.Weight.{total_weight};
+ghost use Rattle.dl_terms.specs.declared.role.Normal.{Normal};
+ghost use Rattle.dl_normal.specs.Indexed.{IsNormalForm};
 ghost use Rattle.dl_hier.specs.Hierarchy.{IsHierarchyOf};
+ghost use Rattle.dl_hier.specs.Rows.{ArePredicatesOf};
 ghost use Rattle.dl_numbers.specs.Numbers.{HasNumber};
 ghost use Rattle.dl_epoch.specs.Known.{IsSignature, IsAxiomIn, ArePredicatesFew, max_weight};
 ghost use Rattle.dl_epoch.specs.Frozen.{IsFrozen, IsHierarchyIn};
@@ -103,7 +106,7 @@ impl Epoch {
         &self.signature
     }
 
-    /// The hierarchy of its axioms, over the names of its signature. It takes no memory.
+    /// The hierarchy of its axioms, over the names of its signature and the fillers of the axioms. It takes no memory.
     pub fn hier(&self) -> &Hier
         ensures { IsHierarchyIn self.now result.now }
     {
@@ -170,6 +173,8 @@ fn hier_of(alloc: Global, axioms: &[Axiom], signature: &Signature) -> Result<Hie
     ensures hierarchy { IfOk result (λ h. IsHierarchyOf h axioms.now) }
     ensures classes { IfOk result (λ h. h.predicates.classes ≡ signature.now.classes) }
     ensures roles { IfOk result (λ h. h.predicates.properties ≡ signature.now.roles) }
+    ensures predicates { IfOk result (λ h. (normal : Normal) → IsNormalForm axioms.now normal →
+        ArePredicatesOf signature.now normal h.predicates) }
 {
     let rows = normal(alloc, axioms)?;
     Hier::build(alloc, &rows, signature)

@@ -1,7 +1,11 @@
--- The pairs below what is asked depend on the members of a list of facts alone.
+-- The pairs below what is asked depend on the members of a list of facts alone, and their set on the pairs in any order.
 use Rattle.std.proofs.Common.{◌↔◌, ◌⊎◌, inl, inr, ℕ, List, ◌++◌, sym, subst}
 use Rattle.std.specs.List.{Contains}
 use Rattle.std.proofs.lemmas.List.Elements.{Contains-append_left, Contains-append_right, Contains-append_cases}
+use Rattle.std.specs.List.Sorted.{IsPermutation}
+use Rattle.std.specs.declared.cmp.Ordering.{Ordering}
+use Rattle.std.proofs.lemmas.List.Sorted.{Contains-permutation, IsPermutation-sym}
+use Rattle.dl_terms.specs.Sets.{IsSetOf}
 use Rattle.dl_terms.specs.declared.axiom.Fact.{Fact}
 use Rattle.dl_hier.specs.declared.below.Below.{Below}
 use Rattle.dl_row.specs.Rows.{Epoch}
@@ -55,3 +59,13 @@ pair-append epochs version one two below p = pair-either xs ys (visible_facts ep
 
     ys : List Fact
     ys = visible_facts epochs version two
+
+-- the set of a list is that of the list in any order
+pub set_of_moved : {A : Type 0} {cmp : A → A → Ordering} (set moved items : List A) → IsPermutation items moved → IsSetOf cmp set moved → IsSetOf cmp set items
+set_of_moved set moved items same of = record {
+  ascending = of.ascending;
+  members = λ x. (
+    λ h. Contains-permutation moved items x (IsPermutation-sym items moved same) ((of.members x).0 h),
+    λ h. (of.members x).1 (Contains-permutation items moved x same h),
+  );
+}

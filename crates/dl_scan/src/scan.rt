@@ -10,7 +10,7 @@ use dl_epoch::{Entry, Epochs};
 use dl_hier::Below;
 use dl_row::PlainShard;
 use dl_terms::{List, NoMemory, Pair, Steps, set_of};
-use std::alloc::Global;
+use std::alloc::{AllocError, Global};
 use std::marker::Model;
 use std::sync::ledger::Ledger;
 
@@ -70,11 +70,11 @@ impl AtomScan {
         )
     }
 
-    /// The pairs, sorted, each once. It takes no memory.
+    /// The pairs, sorted, each once. It takes room for as many pairs, and fails only for want of memory.
     pub fn finish(self) -> Result<List<Pair>, NoMemory>
         ensures { IfOk result (λ pairs. IsSetOf pair_cmp pairs self.pairs) }
     {
-        Ok(set_of(self.pairs))
+        Ok(set_of_runs(self.pairs)?)
     }
 }
 
@@ -105,4 +105,14 @@ fn push_epochs<L: Ledger>(
         )?;
     }
     Ok(())
+}
+
+/// The set of pairs that ascend run by run, as those of each number do. A stable sort finds the runs and puts them
+/// together, so it is linear where they are few.
+fn set_of_runs(pairs: List<Pair>) -> Result<List<Pair>, AllocError>
+    ensures { IfOk result (λ set. IsSetOf pair_cmp set pairs) }
+{
+    let mut sorted = pairs.into_vec();
+    sorted.sort()?;
+    Ok(set_of(List::of(sorted)))
 }

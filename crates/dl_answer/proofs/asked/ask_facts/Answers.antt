@@ -1,15 +1,16 @@
-use Rattle.std.proofs.Common.{refl}
-use Rattle.dl_answer.specs.Replies.{normal_form}
+use Rattle.std.proofs.Common.{refl, sym, ap, subst, ◌∙◌}
+use Rattle.std.specs.Arc.{arc_value}
+use Rattle.dl_epoch.specs.Frozen.{Frozen, IsHierarchyIn}
+use Rattle.dl_answer.specs.Facts.{HasPredicates}
 use Rattle.dl_answer.proofs.BrokenLemmas.{broken_reply, sound_reply}
-use Rattle.dl_answer.proofs.BuiltLemmas.{few_axioms, known_predicates, names_known, names_few}
+use Rattle.dl_answer.proofs.BuiltLemmas.{few_axioms, epoch_behind}
 use Rattle.dl_answer.proofs.asked.ask_facts.Goals as goal
 
-pub hier_of-requires-clause-names : goal.hier_of-requires-clause-names
-hier_of-requires-clause-names c = names_known c.args.signature.now c.args.axioms.now c.requires.known
-
-pub hier_of-requires-clause-few : goal.hier_of-requires-clause-few
-hier_of-requires-clause-few c =
-    names_few c.args.signature.now c.args.axioms.now c.requires.no_filler c.requires.few
+pub by_predicate-requires-clause-known : goal.by_predicate-requires-clause-known
+by_predicate-requires-clause-known c =
+    subst (λ s. HasPredicates s c.args.facts.now)
+    (sym (ap (λ (e : Frozen). e.signature) c.in_ok-try_clone.ensures ∙ c.in_ok-epoch.ensures.signature))
+    c.requires.predicates
 
 pub first_broken-requires : goal.first_broken-requires
 first_broken-requires c = few_axioms c.args.axioms.now c.requires.weight
@@ -18,11 +19,11 @@ pub returns-in-Broken : goal.returns-in-Broken
 returns-in-Broken c =
     let axioms = c.args.axioms.now in
     let facts = c.args.facts.now in
-    let known = known_predicates c.args.signature.now
-    (normal_form axioms) c.in_ok-hier.hier.predicates facts c.in_ok-hier.ensures.predicates c.requires.predicates in (
-      broken_reply axioms facts c.args.nothing c.in_ok-verdict.verdict
-          (c.in_ok-verdict.ensures facts record
-          { hierarchy = c.in_ok-hier.ensures.hierarchy; has_roles = c.in_ok-hier.ensures.roles; known = known; indexed = c.in_ok-facts.ensures })
+    let behind = epoch_behind (arc_value c.in_ok-epoch.epoch) c.hier-hier.result.now c.in_ok-facts.facts axioms
+    c.args.signature.now facts c.in_ok-epoch.ensures.axioms c.in_ok-epoch.ensures.signature
+    (subst (λ (e : Frozen). IsHierarchyIn e c.hier-hier.result.now) c.deref.ensures c.hier-hier.ensures)
+    c.requires.known c.requires.predicates c.in_ok-facts.ensures in (
+      broken_reply axioms facts c.args.nothing c.in_ok-verdict.verdict (c.in_ok-verdict.ensures facts behind)
           c.args.query.now c.args.limit c.in-Broken.axiom c.in-Broken.is,
       refl,
     )
@@ -31,12 +32,10 @@ pub returns : goal.returns
 returns c =
     let axioms = c.args.axioms.now in
     let facts = c.args.facts.now in
-    let known = known_predicates c.args.signature.now
-    (normal_form axioms) c.in_ok-hier.hier.predicates facts c.in_ok-hier.ensures.predicates c.requires.predicates in
+    let behind = epoch_behind (arc_value c.in_ok-epoch.epoch) c.hier-hier.result.now c.in_ok-facts.facts axioms
+    c.args.signature.now facts c.in_ok-epoch.ensures.axioms c.in_ok-epoch.ensures.signature
+    (subst (λ (e : Frozen). IsHierarchyIn e c.hier-hier.result.now) c.deref.ensures c.hier-hier.ensures)
+    c.requires.known c.requires.predicates c.in_ok-facts.ensures in
     c.told.ensures axioms facts c.args.nothing c.args.query.now c.args.limit
-    (sound_reply axioms facts c.args.nothing c.in_ok-verdict.verdict
-    (c.in_ok-verdict.ensures facts record
-    { hierarchy = c.in_ok-hier.ensures.hierarchy; has_roles = c.in_ok-hier.ensures.roles; known = known; indexed = c.in_ok-facts.ensures })
-    c.in-Sound.is)
-    (c.certain.ensures axioms facts record
-    { hierarchy = c.in_ok-hier.ensures.hierarchy; has_roles = c.in_ok-hier.ensures.roles; known = known; indexed = c.in_ok-facts.ensures })
+    (sound_reply axioms facts c.args.nothing c.in_ok-verdict.verdict (c.in_ok-verdict.ensures facts behind) c.in-Sound.is)
+    (c.certain.ensures axioms facts behind)

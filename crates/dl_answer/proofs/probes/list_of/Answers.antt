@@ -1,8 +1,5 @@
 use Rattle.std.proofs.lemmas.Result.{IfOk-weaker}
-use Rattle.dl_terms.specs.Sets.{IsSetOf}
-use Rattle.dl_join.specs.Disjuncts.{pair_cmp}
-use Rattle.dl_answer.specs.Facts.{all_pairs}
-use Rattle.dl_answer.specs.Probes.{IsListOf}
+use Rattle.dl_answer.specs.Probes.{IsListOf, ArePairsBelow}
 use Rattle.dl_answer.proofs.StepLemmas.{pairs_sorted, holds_alike}
 use Rattle.dl_answer.proofs.KeptLemmas.{below_alike}
 use Rattle.dl_answer.proofs.probes.list_of.Goals as goal
@@ -13,12 +10,11 @@ returns c =
     let index = c.args.facts.now in
     let probe = c.args.probe.now in
     let below = c.in_ok-below.below in
-    let all = all_pairs index.classes.items index.roles.items below in
-    IfOk-weaker c.pairs_below.result (λ pairs. IsSetOf pair_cmp pairs all) (IsListOf h index probe)
-    (λ pairs set. record {
-      sorted = pairs_sorted pairs set.ascending;
+    IfOk-weaker c.pairs_below.result (ArePairsBelow index below) (IsListOf h index probe)
+    (λ pairs are. record {
+      sorted = pairs_sorted pairs are.ascending;
       holds = λ axioms facts behind q alike.
-          holds_alike axioms facts h index behind below pairs set q
+          holds_alike axioms facts h index behind below pairs are q
           (below_alike axioms h.predicates probe q below alike (c.in_ok-below.ensures axioms behind.hierarchy));
     })
     c.pairs_below.ensures

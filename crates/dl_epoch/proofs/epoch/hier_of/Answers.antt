@@ -2,6 +2,7 @@ use Rattle.std.proofs.Common.{arith}
 use Rattle.dl_epoch.proofs.KnownLemmas.{has_names}
 use Rattle.dl_epoch.proofs.FewLemmas.{are_few, length_weight}
 use Rattle.dl_epoch.proofs.EpochLemmas.{same_names, ok_weaker}
+use Rattle.dl_epoch.proofs.FrozenLemmas.{predicates_of}
 use Rattle.dl_epoch.proofs.epoch.hier_of.Goals as goal
 
 pub normal-requires : goal.normal-requires
@@ -24,3 +25,7 @@ returns-clause-classes c =
 pub returns-clause-roles : goal.returns-clause-roles
 returns-clause-roles c =
     ok_weaker c.build.result c.build.ensures.predicates (λ h p. same_names h.predicates.properties c.args.signature.now.roles p.properties c.requires.signature.roles)
+
+pub returns-clause-predicates : goal.returns-clause-predicates
+returns-clause-predicates c =
+    ok_weaker c.build.result c.build.ensures.predicates (λ h p. predicates_of c.args.signature.now c.args.axioms.now c.in_ok-rows.rows h.predicates c.in_ok-rows.ensures.rows p)

@@ -1,5 +1,5 @@
-use Rattle.dl_answer.proofs.FactLemmas.{set_of_moved}
-use Rattle.dl_answer.proofs.pairs.set_of_runs.Goals as goal
+use Rattle.dl_scan.proofs.BelowLemmas.{set_of_moved}
+use Rattle.dl_scan.proofs.scan.set_of_runs.Goals as goal
 
 pub returns : goal.returns
 returns c =
