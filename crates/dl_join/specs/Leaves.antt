@@ -39,7 +39,8 @@ is_none None = true
 is_none (Some w) = false
 
 abbrev pub is_near : Bool → ℕ → ℕ → Need → Bool
-is_near wide var to need = if mentions var need then true else (if wide then (if need.at == to then is_none need.other else false) else false)
+is_near wide var to need = if mentions var need then true
+    else (if wide then (if need.at == to then is_none need.other else false) else false)
 
 -- the names that needs give to a variable are those that are first in a pair
 abbrev pub AreNamesOf : ℕ → List Need → List (ℕ × ℕ) → Type 0

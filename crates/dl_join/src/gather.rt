@@ -17,9 +17,9 @@ use std::mem;
 /// How many tuples are gathered at least before they are made distinct.
 const BATCH: u64 = 4096;
 
-/// Tuples that are known to be distinct, ascending, and fresh ones in the order in which they were found. From the first
-/// one that comes out of order on, those of one first name are gathered, and made known together, as long as they come
-/// by ascending first names.
+/// Tuples that are known to be distinct, ascending, and fresh ones in the order in which they were found. From the
+/// first one that comes out of order on, those of one first name are gathered, and made known together, as long as they
+/// come by ascending first names.
 #[derive(Drop)]
 pub struct Gathered {
     alloc: Global,
