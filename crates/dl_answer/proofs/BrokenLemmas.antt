@@ -1,5 +1,5 @@
 -- The first broken axiom, from the first negative that is met, and what is met from the certain answers without head.
-use Rattle.std.proofs.Common.{◌≡◌, ℕ, ◌+◌, ◌<◌, ◌≤◌, ◌↔◌, Bool, true, false, List, [], ◌∷◌, ◌++◌, map, filter_map, flat_map, length, take, drop, get_or, slice_get, Result, Ok, Err, refl, sym, ap, subst, ◌∙◌, true≢false, nat_lt, append_assoc, append-nil, arith}
+use Rattle.std.proofs.Common.{◌≡◌, ℕ, ◌+◌, ◌<◌, ◌↔◌, Bool, true, false, List, [], ◌∷◌, ◌++◌, map, filter_map, flat_map, length, take, drop, get_or, slice_get, Result, Ok, Err, refl, sym, ap, subst, ◌∙◌, true≢false, nat_lt, append_assoc, append-nil, arith}
 use Rattle.std.specs.Prelude.{IsTrue, IfSome}
 use Rattle.std.specs.List.{All, Contains}
 use Rattle.std.specs.declared.option.Option.{Option}
@@ -8,7 +8,7 @@ use Rattle.std.proofs.lemmas.Bool.{ltb-true, lt-ltb}
 use Rattle.std.proofs.lemmas.List.{map-append, take_more, take-append-drop, drop_more}
 use Rattle.std.proofs.lemmas.Option.{slice_get_within, slice_get_read}
 use Rattle.std.proofs.lemmas.List.Elements.{All-nil, All-cons, All-append, All-map, Contains-get_or}
-use Rattle.dl_terms.specs.NormalForm.{axiom_rows, as_negative, axiom_negatives, nothing_negative, negatives}
+use Rattle.dl_terms.specs.NormalForm.{axiom_rows, as_negative, axiom_negatives, nothing_negative}
 use Rattle.dl_terms.specs.Answers.{IsCertain}
 use Rattle.dl_terms.specs.Broken.{query_of, IsMet, IsFirstBroken, NothingIsBroken}
 use Rattle.dl_terms.specs.declared.role.Basic.TheVariants.{Class}
@@ -17,7 +17,6 @@ use Rattle.dl_terms.specs.declared.role.Negative.TheVariants.{Basics, Roles, NoL
 use Rattle.dl_terms.specs.declared.axiom.Axiom.{Axiom}
 use Rattle.dl_terms.specs.declared.axiom.Fact.{Fact}
 use Rattle.dl_terms.specs.declared.query.Query.{Query}
-use Rattle.dl_terms.proofs.MemberLemmas.{Contains-first, Contains-nil, Contains-middle}
 use Rattle.dl_hier.proofs.MemberLemmas.{Contains-map, Contains-map_of, Contains-flat_map}
 use Rattle.dl_normal.specs.Indexed.{negatives_by_index}
 use Rattle.dl_normal.proofs.FormLemmas.{negatives-beside}

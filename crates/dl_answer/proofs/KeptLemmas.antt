@@ -1,6 +1,6 @@
 -- Lists that are kept of probes: a probe that asks the same has the same list.
-use Rattle.std.proofs.Common.{◌≡◌, ℕ, Ok, MatchOption, List, [], ◌∷◌, ◌++◌, length, take, get_or, refl, sym, ap, subst, ◌∙◌, Bool, true, false, true≢false, inl, inr, arith}
-use Rattle.std.specs.Prelude.{◌↔◌, ◌+◌, ◌<◌, ◌≤◌, IsTrue}
+use Rattle.std.proofs.Common.{◌≡◌, ℕ, Ok, ◌⊎◌, List, [], ◌∷◌, ◌++◌, length, take, get_or, refl, sym, ap, subst, ◌∙◌, Bool, true, false, true≢false, inl, inr, arith}
+use Rattle.std.specs.Prelude.{◌↔◌, ◌+◌, ◌<◌, ◌≤◌, IsTrue, IfSome}
 use Rattle.std.specs.List.{All, Any, Contains}
 use Rattle.std.specs.declared.cmp.Ordering.{Ordering}
 use Rattle.std.specs.declared.cmp.Ordering.TheVariants.{Less, Equal, Greater}
@@ -10,8 +10,9 @@ use Rattle.std.specs.declared.option.Option.TheVariants.{Some, None}
 use Rattle.std.specs.Cmp.{tied_itself}
 use Rattle.std.specs.Cmp.Lexicographic.{slice_cmp}
 use Rattle.std.proofs.Math.Path.{fun_ext}
-use Rattle.std.proofs.lemmas.List.{take_more, take_all}
-use Rattle.std.proofs.lemmas.List.Elements.{All-push, Contains-push_cases}
+use Rattle.std.proofs.lemmas.Bool.{cases_lt}
+use Rattle.std.proofs.lemmas.List.{take_more, take_all, get_or_default, get_or_append_left, get_or_push, length_push}
+use Rattle.std.proofs.lemmas.List.Elements.{All-weaker, Contains-push_cases}
 use Rattle.dl_terms.specs.Order.{basic_cmp}
 use Rattle.dl_terms.specs.contracts.role.BasicOrd.TheImpl as basic_impl
 use Rattle.dl_terms.specs.declared.role.Basic.TheVariants.{Class, SomeOf}
@@ -20,6 +21,7 @@ use Rattle.dl_terms.proofs.OrderLemmas.{lists_linear, basics_linear}
 use Rattle.dl_terms.specs.declared.axiom.Axiom.{Axiom}
 use Rattle.dl_terms.specs.declared.axiom.Fact.{Fact}
 use Rattle.dl_terms.specs.declared.role.Basic.{Basic}
+use Rattle.dl_terms.specs.declared.query.Term.TheVariants.{Name}
 use Rattle.dl_terms.specs.declared.query.Probe.{Probe}
 use Rattle.dl_terms.specs.declared.query.Probe.TheVariants.{AnyOf, Joined}
 use Rattle.dl_terms.specs.Table.{Table}
@@ -29,13 +31,15 @@ use Rattle.dl_hier.specs.Predicates.{Predicates}
 use Rattle.dl_hier.specs.Hierarchy.{Hierarchy}
 use Rattle.dl_hier.specs.declared.below.Below.{Below}
 use Rattle.dl_join.specs.Disjuncts as join
+use Rattle.dl_join.specs.Disjuncts.{pair_cmp, AreSorted}
+use Rattle.std.specs.List.Sorted.{IsSorted}
 use Rattle.dl_join.specs.Tuples.{AreExactly}
 use Rattle.dl_answer.proofs.TupleLemmas.{exactly_none}
 use Rattle.dl_rewrite.specs.OverNames.{ProbeHolds, HasOverNames}
 use Rattle.dl_answer.specs.Probes.{AreBelowProbe, AreBehind, AskAlike, IsListOf, AreListsOf}
 use Rattle.dl_answer.specs.Replies.{GivesTuples}
-use Rattle.dl_answer.specs.Kept.{IsKept}
-use Rattle.dl_answer.specs.declared.kept.Kept.{Kept}
+use Rattle.dl_answer.specs.Kept.{IsKept, IsSlotKept, AreFirst}
+use Rattle.dl_answer.specs.declared.slots.Kept.{Kept}
 use Rattle.dl_answer.specs.declared.index.FactsByPredicate.{FactsByPredicate}
 
 -- ---- probes that ask the same
@@ -71,12 +75,6 @@ module _ (h : Hierarchy) (index : FactsByPredicate) where
     holds = λ axioms facts behind q alike. is.holds axioms facts behind q (alike_then one other q same alike);
   }
 
-  -- one of some probes has no pair
-  pub some_empty : (probes : List Probe) (i : ℕ) (p : Probe) (pairs : List (ℕ × ℕ)) → i < length probes
-      → p ≡ get_or probes i p → length pairs ≡ 0 → IsListOf h index p pairs → Any (λ q. IsListOf h index q []) probes
-  some_empty probes i p [] lt is none list = (i, p, lt, sym is, list)
-  some_empty probes i p (x ∷ xs) lt is none list = absurd (omega (arith, none))
-
   -- a probe over no pair never holds
   pub empty_fails : (p : Probe) → IsListOf h index p [] → (axioms : List Axiom) (facts : List Fact)
       → AreBehind h index axioms facts → (names : ℕ → ℕ) → ProbeHolds axioms facts names p → ⊥
@@ -86,23 +84,6 @@ module _ (h : Hierarchy) (index : FactsByPredicate) where
       none : (q : Probe) → join.ProbeHolds names [] q → ⊥
       none (AnyOf basics t) w = Contains-nil _ w.1
       none (Joined role t u) c = Contains-nil _ c
-
--- what is listed where a list comes, and where none does
-module _ (h : Hierarchy) (index : FactsByPredicate) (probes slice : List Probe)
-    (o : Option (List (List (ℕ × ℕ)))) where
-  abbrev pub Listed : Type 0
-  Listed = MatchOption o (Any (λ p. IsListOf h index p []) slice) (AreListsOf h index slice)
-
-  pub listed_some : (lists : List (List (ℕ × ℕ))) → slice ≡ probes → o ≡ Some lists → Listed
-      → AreListsOf h index probes lists
-  listed_some lists same is listed =
-      subst (λ ps. AreListsOf h index ps lists) same
-      (subst (λ x. MatchOption x (Any (λ p. IsListOf h index p []) slice) (AreListsOf h index slice)) is listed)
-
-  pub listed_none : slice ≡ probes → o ≡ None → Listed → Any (λ p. IsListOf h index p []) probes
-  listed_none same is listed =
-      subst (λ ps. Any (λ p. IsListOf h index p []) ps) same
-      (subst (λ x. MatchOption x (Any (λ p. IsListOf h index p []) slice) (AreListsOf h index slice)) is listed)
 
 -- a disjunct of which a probe has no pair has no tuple
 pub empty_gives : (h : Hierarchy) (index : FactsByPredicate) (d : Disjunct) (limit : ℕ) (table : Table)
@@ -116,13 +97,117 @@ empty_gives h index d limit table some none axioms facts behind = (
   omega (arith, ap length none),
 )
 
--- ---- what code tells of probes
+-- ---- lists of the first of some probes
+
+any_probe : Probe
+any_probe = Joined 0 (Name 0) (Name 0)
+
+module _ (h : Hierarchy) (index : FactsByPredicate) (probes : List Probe) where
+  pub first_none : (lists : List (List (ℕ × ℕ))) → lists ≡ [] → AreFirst h index probes lists
+  first_none lists none k p lt = absurd (omega (arith, lt, ap length none))
+
+  -- one list more
+  pub first_push : (i : ℕ) (probe : Probe) (old new : List (List (ℕ × ℕ))) (pairs : List (ℕ × ℕ)) → i < length probes
+      → probe ≡ get_or probes i probe → length old ≡ i → AreFirst h index probes old → IsListOf h index probe pairs
+      → new ≡ old ++ pairs ∷ [] → AreFirst h index probes new
+  first_push i probe old new pairs inside at size first is grown =
+      subst (AreFirst h index probes) (sym grown) (λ k p lt. elim (cases_lt k (length old)) [
+        | inl before ↦
+            subst (IsListOf h index (get_or probes k p)) (sym (get_or_append_left old (pairs ∷ []) [] k before))
+            (first k p before)
+        | inr past ↦
+            let longer = length_push old pairs in
+            let last : k ≡ i = omega (arith, past, lt, longer, size) in
+            subst (λ j. IsListOf h index (get_or probes j p) (get_or (old ++ pairs ∷ []) j [])) (sym last)
+            (subst (λ q. IsListOf h index q (get_or (old ++ pairs ∷ []) i [])) (at ∙ get_or_default probes i probe p inside)
+            (subst (IsListOf h index probe) (sym (get_or_push old pairs [] i size)) is))
+      ])
+
+  -- without the last list, and that list
+  module _ (old new : List (List (ℕ × ℕ))) (pairs : List (ℕ × ℕ)) (is : old ≡ new ++ pairs ∷ [])
+      (first : AreFirst h index probes old) where
+    longer : length old ≡ length new + 1
+    longer = ap length is ∙ length_push new pairs
+
+    pub first_front : AreFirst h index probes new
+    first_front k p lt =
+        let inside : k < length old = omega (arith, lt, longer) in
+        subst (IsListOf h index (get_or probes k p))
+        (ap (λ l. get_or l k []) is ∙ get_or_append_left new (pairs ∷ []) [] k lt) (first k p inside)
+
+    pub first_last : (i : ℕ) (probe : Probe) → i ≡ length new → i < length probes → probe ≡ get_or probes i probe
+        → IsListOf h index probe pairs
+    first_last i probe here inside at =
+        let there : i < length old = omega (arith, here, longer) in
+        subst (λ q. IsListOf h index q pairs) (sym at)
+        (subst (IsListOf h index (get_or probes i probe))
+        (ap (λ l. get_or l i []) is ∙ get_or_push new pairs [] i (sym here)) (first i probe there))
+
+  module _ (lists : List (List (ℕ × ℕ))) (first : AreFirst h index probes lists) where
+    pub first_sorted : AreSorted lists
+    first_sorted k d lt = subst (IsSorted pair_cmp) (get_or_default lists k [] d lt) (first k any_probe lt).sorted
+
+    -- where none of them is empty, they are those of all probes
+    pub lists_whole : length lists ≡ length probes → AreListsOf h index probes lists
+    lists_whole same = record {
+      count = same;
+      sorted = first_sorted;
+      each = λ axioms facts behind k p lt.
+          let inside : k < length lists = omega (arith, lt, same) in
+          (first k p inside).holds axioms facts behind (get_or probes k p) (alike_itself (get_or probes k p));
+    }
+
+    -- where one is, a probe has no pair
+    pub some_empty : Any (λ l. l ≡ []) lists → length lists ≤ length probes → Any (λ p. IsListOf h index p []) probes
+    some_empty any few =
+        let inside : any.0 < length probes = omega (arith, any.2, few) in (
+          any.0,
+          get_or probes any.0 any_probe,
+          inside,
+          get_or_default probes any.0 (get_or probes any.0 any_probe) any_probe inside,
+          subst (IsListOf h index (get_or probes any.0 any_probe))
+              (get_or_default lists any.0 [] any.1 any.2 ∙ (any.3 ∙ any.4)) (first any.0 any_probe any.2),
+        )
+
+-- a probe that asks the same as one of them has the list of that
+pub earlier_list : (h : Hierarchy) (index : FactsByPredicate) (probes : List Probe) (lists : List (List (ℕ × ℕ))) (k : ℕ)
+    (one probe : Probe) (list pairs : List (ℕ × ℕ)) → k < length lists → one ≡ get_or probes k one
+    → list ≡ get_or lists k list → AskAlike one probe → pairs ≡ list → AreFirst h index probes lists
+    → IsListOf h index probe pairs
+earlier_list h index probes lists k one probe list pairs lt is_one is_list alike same first =
+    subst (IsListOf h index probe) (get_or_default lists k [] list lt ∙ (sym is_list ∙ sym same))
+    (list_alike h index one probe (get_or lists k []) alike
+    (subst (λ q. IsListOf h index q (get_or lists k [])) (sym is_one) (first k one lt)))
+
+-- the last of some lists is empty
+pub last_empty : (old new : List (List (ℕ × ℕ))) (pairs : List (ℕ × ℕ)) → new ≡ old ++ pairs ∷ [] → pairs ≡ []
+    → Any (λ l. l ≡ []) new
+last_empty old new pairs grown none =
+    subst (Any (λ l. l ≡ [])) (sym grown) (
+      length old,
+      pairs,
+      omega (arith, length_push old pairs),
+      get_or_push old pairs pairs (length old) refl,
+      none,
+    )
+
+-- ---- slots
 
 module _ (h : Hierarchy) (index : FactsByPredicate) where
-  -- one more list is kept
-  pub kept_pushed : (kept new : List Kept) (one : Kept) → All (IsKept h index) kept → IsListOf h index one.probe.now one.pairs
-      → new ≡ kept ++ one ∷ [] → All (IsKept h index) new
-  kept_pushed kept new one all is grown = subst (All (IsKept h index)) (sym grown) (All-push (IsKept h index) kept one all is)
+  pub none_kept : (slots : List (Option Kept)) → All (λ slot. slot ≡ None) slots → All (IsSlotKept h index) slots
+  none_kept slots none =
+      All-weaker (λ slot. slot ≡ None) (IsSlotKept h index) (λ slot is. subst (IsSlotKept h index) (sym is) tt) slots none
+
+  -- what is moved out of a slot
+  pub moved_out : (slots : List (Option Kept)) (i : ℕ) (out : Option Kept) → All (IsSlotKept h index) slots
+      → i < length slots → out ≡ get_or slots i out → IfSome out (IsKept h index)
+  moved_out slots i out all inside is = by out (subst (IsSlotKept h index) (sym is) (all i out inside))
+    where
+      by : (o : Option Kept) → IsSlotKept h index o → IfSome o (IsKept h index)
+      by None kept = tt
+      by (Some one) kept = kept
+
+-- ---- what code tells of probes
 
 basics_compared : (xs ys : List Basic) → slice_cmp (basic_impl.cmp-value).it xs ys ≡ slice_cmp basic_cmp xs ys
 basics_compared xs ys = ap (λ R. slice_cmp R xs ys) (fun_ext (λ b. fun_ext (λ c. same b c)))
@@ -178,3 +263,10 @@ module _ {A : Type 0} (P : A → Type 0) where
 -- what failed a test doesn't hold
 pub failed : {P : Type 0} (b : Bool) → IsTrue b ↔ P → b ≡ false → P → ⊥
 failed b told e p = true≢false (sym (told.1 p) ∙ e)
+
+-- where none of some lists is empty, there is one for each probe
+pub all_listed : (b : Bool) (lists : List (List (ℕ × ℕ))) (probes : List Probe) → b ≡ false
+    → IsTrue b ↔ Any (λ l. l ≡ []) lists → Any (λ l. l ≡ []) lists ⊎ (length lists ≡ length probes)
+    → length lists ≡ length probes
+all_listed b lists probes is told (inl any) = absurd (failed b told is any)
+all_listed b lists probes is told (inr same) = same

@@ -1,10 +1,9 @@
 -- What the functions of this crate need, step by step: lists of probes, and tuples.
-use Rattle.std.proofs.Common.{◌≡◌, ℕ, Result, Ok, Err, ◌+◌, ◌<◌, ◌≤◌, ◌↔◌, List, [], ◌∷◌, ◌++◌, length, take, get_or, refl, sym, ap, subst, ◌∙◌, arith}
+use Rattle.std.proofs.Common.{◌≡◌, ℕ, Result, Ok, Err, ◌+◌, ◌<◌, ◌≤◌, ◌↔◌, List, [], ◌∷◌, ◌++◌, length, get_or, refl, sym, ap, subst, ◌∙◌, arith}
 use Rattle.std.specs.Ordering.{is_lt, ordering_reverse}
 use Rattle.std.specs.List.{Contains}
 use Rattle.std.specs.List.Sorted.{IsSorted, IsStrictlySortedBy}
-use Rattle.std.proofs.lemmas.List.{take_more, get_or_default, length_push}
-use Rattle.std.proofs.lemmas.List.Elements.{All-push, All-weaker, Contains-get_or}
+use Rattle.std.proofs.lemmas.List.Elements.{All-weaker, Contains-get_or}
 use Rattle.std.specs.Prelude.{IfOk}
 use Rattle.dl_terms.specs.Table.{Table}
 use Rattle.dl_terms.specs.declared.axiom.Axiom.{Axiom}
@@ -18,7 +17,6 @@ use Rattle.dl_join.specs.Disjuncts.{name_of, pair_cmp, IsTuple, IsSafe}
 use Rattle.dl_join.specs.Tuples.{AreExactly, AreMoreThan}
 use Rattle.dl_join.specs.declared.fault.JoinFault.{JoinFault}
 use Rattle.dl_join.specs.declared.fault.JoinFault.TheVariants.{TooMany, NoMemory}
-use Rattle.dl_join.proofs.JoinLemmas.{each_push}
 use Rattle.dl_join.proofs.MergeLemmas.{sorted_at}
 use Rattle.dl_join.proofs.OrderLemmas.{pair_linear}
 use Rattle.dl_scan.specs.Pairs.{IsPairBelow}
@@ -69,45 +67,6 @@ module _ (axioms : List Axiom) (facts : List Fact) (h : Hierarchy) (index : Fact
         (pair_of_joined axioms facts h.predicates.classes h.predicates.properties behind.known below role is.0
         is.1 is.2 (name_of names t) (name_of names u) j),
   )
-
--- ---- lists of probes
-
-pub lists_none : (h : Hierarchy) (index : FactsByPredicate) → AreListsOf h index [] []
-lists_none h index = record {
-  count = refl;
-  sorted = λ k d lt. absurd (omega (arith, lt));
-  each = λ axioms facts behind k p lt. absurd (omega (arith, lt));
-}
-
-lists_push : (h : Hierarchy) (index : FactsByPredicate) (probes : List Probe) (lists : List (List (ℕ × ℕ)))
-    (probe : Probe) (pairs : List (ℕ × ℕ))
-    → AreListsOf h index probes lists → IsSorted pair_cmp pairs
-    → ((axioms : List Axiom) (facts : List Fact) → AreBehind h index axioms facts → HoldsAlike axioms facts probe pairs)
-    → AreListsOf h index (probes ++ probe ∷ []) (lists ++ pairs ∷ [])
-lists_push h index probes lists probe pairs are sorted holds = record {
-  count = let a = length_push probes probe in let b = length_push lists pairs in let c = are.count in omega arith;
-  sorted = All-push (IsSorted pair_cmp) lists pairs are.sorted sorted;
-  each = λ axioms facts behind k p lt.
-      each_push (λ j q l. HoldsAlike axioms facts q l) probes lists probe pairs are.count
-      (λ j d e inside.
-      let there : j < length lists = omega (arith, inside, are.count) in
-      subst (HoldsAlike axioms facts (get_or probes j d)) (get_or_default lists j [] e there)
-      (are.each axioms facts behind j d inside))
-      (holds axioms facts behind) k p [] lt;
-}
-
-pub lists_more : (h : Hierarchy) (index : FactsByPredicate) (probes : List Probe) (i : ℕ) (probe : Probe)
-    (old new : List (List (ℕ × ℕ))) (pairs : List (ℕ × ℕ))
-    → i < length probes → probe ≡ get_or probes i probe → AreListsOf h index (take i probes) old
-    → new ≡ old ++ pairs ∷ [] → IsSorted pair_cmp pairs
-    → ((axioms : List Axiom) (facts : List Fact) → AreBehind h index axioms facts → HoldsAlike axioms facts probe pairs)
-    → AreListsOf h index (take (i + 1) probes) new
-lists_more h index probes i probe old new pairs inside at are grown sorted holds =
-    let front : take (i + 1) probes ≡ take i probes ++ probe ∷ [] = take_more probes i probe inside ∙ ap
-    (λ q. take i probes ++ q ∷ []) (sym at) in
-    subst (λ ps. AreListsOf h index ps new) (sym front)
-    (subst (AreListsOf h index (take i probes ++ probe ∷ [])) (sym grown)
-    (lists_push h index (take i probes) old probe pairs are sorted holds))
 
 -- ---- tuples
 

@@ -1,24 +1,23 @@
--- The tuples of the disjuncts of a rewriting, united one disjunct after another.
-use Rattle.std.proofs.Common.{◌≡◌, ℕ, Result, Ok, Err, ◌+◌, ◌<◌, ◌≤◌, ◌↔◌, ◌⊎◌, inl, inr, List, [], ◌∷◌, ◌++◌, map, length, take, drop, get_or, refl, sym, ap, subst, ◌∙◌, arith}
+-- The tuples of the disjuncts of a rewriting, those of two parts united.
+use Rattle.std.proofs.Common.{◌≡◌, ℕ, Result, Ok, Err, ◌<◌, ◌≤◌, ◌↔◌, ◌⊎◌, inl, inr, List, [], ◌++◌, map, length, get_or, refl, sym, ap, subst, ◌∙◌, arith}
+use Rattle.std.specs.Prelude.{IfOk}
 use Rattle.std.specs.List.{All, Contains}
-use Rattle.std.proofs.lemmas.List.{take_more, take_all, take-append-drop}
-use Rattle.std.proofs.lemmas.List.Elements.{All-contains, Contains-get_or, Contains-append_left, Contains-push, Contains-push_cases}
+use Rattle.std.proofs.lemmas.List.{get_or_default}
+use Rattle.std.proofs.lemmas.List.Elements.{All-contains, Contains-get_or, Contains-append_left, Contains-append_right, Contains-append_cases}
 use Rattle.dl_terms.specs.Roles.{named}
 use Rattle.dl_terms.specs.Table.{Table}
-use Rattle.dl_terms.specs.Answers.{IsCertain, AscendStrictly}
+use Rattle.dl_terms.specs.Answers.{IsCertain}
 use Rattle.dl_terms.specs.declared.role.Base.TheVariants.{Named}
 use Rattle.dl_terms.specs.declared.axiom.Axiom.{Axiom}
 use Rattle.dl_terms.specs.declared.axiom.Fact.{Fact}
 use Rattle.dl_terms.specs.declared.axiom.Fact.TheVariants.{Link}
 use Rattle.dl_terms.specs.declared.query.Query.{Query}
 use Rattle.dl_terms.specs.declared.query.Disjunct.{Disjunct}
-use Rattle.dl_terms.proofs.MemberLemmas.{Contains-nil}
 use Rattle.dl_hier.specs.Predicates.{Predicates, roles}
 use Rattle.dl_hier.specs.Hierarchy.{Hierarchy, IsHierarchyOf}
 use Rattle.dl_hier.proofs.MemberLemmas.{Contains-map_of}
 use Rattle.dl_hier.proofs.PredicateLemmas.{base-role}
-use Rattle.dl_join.specs.Tuples.{AreExactly, AreMoreThan, tuple_cmp}
-use Rattle.dl_join.proofs.MergeLemmas.{sorted_nil}
+use Rattle.dl_join.specs.Tuples.{AreExactly, AreMoreThan}
 use Rattle.dl_join.specs.declared.fault.JoinFault.{JoinFault}
 use Rattle.dl_join.specs.declared.fault.JoinFault.TheVariants.{TooMany, NoMemory}
 use Rattle.dl_rewrite.specs.Known.{HasRolesOf, LinksAreKnown}
@@ -29,6 +28,7 @@ use Rattle.dl_answer.specs.Probes.{AreBehind}
 use Rattle.dl_answer.specs.Replies.{GivesTuples}
 use Rattle.dl_answer.specs.declared.index.FactsByPredicate.{FactsByPredicate}
 use Rattle.dl_answer.proofs.StepLemmas.{exactly_same, over_more}
+use Rattle.dl_answer.proofs.TupleLemmas.{exactly_none}
 use Rattle.dl_answer.proofs.DecidedLemmas.{some_exist}
 
 -- ---- certain answers
@@ -63,129 +63,109 @@ certain_given h index q ds limit result exact gives axioms facts behind =
     gives_same (SomeHasOverNames axioms facts ds) (IsCertain axioms facts q) (λ t. ((same t).1, (same t).0)) limit result
     (gives axioms facts behind)
 
--- ---- one disjunct after another
+-- ---- disjuncts in two parts
 
--- the tuples of some disjuncts, as many as a limit at most
-pub record Unites (h : Hierarchy) (index : FactsByPredicate) (q : Query) (limit : ℕ) (ds : List Disjunct)
-    (table : Table) : Type 0 where
-  pub width : table.width ≡ length q.head
-  pub ascending : AscendStrictly table.tuples
-  pub within : length table.tuples ≤ limit
-  pub exact : (axioms : List Axiom) (facts : List Fact) → AreBehind h index axioms facts → (t : List ℕ)
-      → Contains table.tuples t ↔ SomeHasOverNames axioms facts ds t
-
--- a disjunct that comes last, and the ones before it
-some_pushed : (axioms : List Axiom) (facts : List Fact) (ds : List Disjunct) (d : Disjunct) (t : List ℕ)
-    → SomeHasOverNames axioms facts (ds ++ d ∷ []) t
-    ↔ (SomeHasOverNames axioms facts ds t ⊎ HasOverNames axioms facts d t)
-some_pushed axioms facts ds d t = (
-  λ some. elim (Contains-push_cases ds d some.disjunct some.is_one) [
-    | inl there ↦ inl record { disjunct = some.disjunct; is_one = there; has = some.has }
-    | inr same ↦ inr (subst (λ e. HasOverNames axioms facts e t) (sym same) some.has)
-  ],
-  λ either. elim either [
-    | inl some ↦ record {
-      disjunct = some.disjunct;
-      is_one = Contains-append_left ds (d ∷ []) some.disjunct some.is_one;
-      has = some.has;
-    }
-    | inr has ↦ record { disjunct = d; is_one = Contains-push ds d; has = has }
-  ],
+-- the tuples of no disjunct, and of one
+pub none_given : (axioms : List Axiom) (facts : List Fact) (ds : List Disjunct) (limit : ℕ) (table : Table)
+    → length ds ≡ 0 → table.tuples ≡ [] → GivesTuples (SomeHasOverNames axioms facts ds) limit (Ok table)
+none_given axioms facts ds limit table nothing none = (
+  subst (AreExactly (SomeHasOverNames axioms facts ds)) (sym none)
+      (exactly_none (SomeHasOverNames axioms facts ds)
+      (λ t some. let inside = some.is_one.1 in absurd (omega (arith, inside, nothing)))),
+  omega (arith, ap length none),
 )
+
+pub one_given : (axioms : List Axiom) (facts : List Fact) (ds : List Disjunct) (d : Disjunct) (limit : ℕ)
+    (result : Result Table JoinFault) → length ds ≡ 1 → d ≡ get_or ds 0 d
+    → GivesTuples (HasOverNames axioms facts d) limit result
+    → GivesTuples (SomeHasOverNames axioms facts ds) limit result
+one_given axioms facts ds d limit result single is =
+    gives_same (HasOverNames axioms facts d) (SomeHasOverNames axioms facts ds) (λ t. (
+      λ has. record { disjunct = d; is_one = (0, omega (arith, single), sym is); has = has },
+      λ some.
+          let first : some.is_one.0 ≡ 0 = omega (arith, some.is_one.1, single) in
+          let inside : 0 < length ds = omega (arith, single) in
+          subst (λ e. HasOverNames axioms facts e t)
+          (sym some.is_one.2 ∙ (ap (λ k. get_or ds k some.disjunct) first ∙ (get_or_default ds 0 some.disjunct d inside ∙ sym is)))
+          some.has,
+    )) limit result
 
 -- the shape of one of some disjuncts
 pub shaped_at : (q : Query) (ds : List Disjunct) → All (IsShapedFor q) ds → (i : ℕ) (d : Disjunct) → i < length ds
     → d ≡ get_or ds i d → IsShapedFor q d
 shaped_at q ds shaped i d inside is = subst (IsShapedFor q) (sym is) (shaped i d inside)
 
-module _ (h : Hierarchy) (index : FactsByPredicate) (q : Query) (limit : ℕ) where
-  pub unites_none : (table : Table) → table.width ≡ length q.head → table.tuples ≡ []
-      → Unites h index q limit [] table
-  unites_none table width none = record {
-    width = width;
-    ascending = subst AscendStrictly (sym none) (sorted_nil tuple_cmp);
-    within = omega (arith, ap length none);
-    exact = λ axioms facts behind t. (
-      λ c. absurd (Contains-nil t (subst (λ l. Contains l t) none c)),
-      λ some. absurd (Contains-nil some.disjunct some.is_one),
-    );
-  }
+-- what all disjuncts are, those of a part are
+pub part_shaped : (q : Query) (ds part : List Disjunct) → ((d : Disjunct) → Contains part d → Contains ds d)
+    → All (IsShapedFor q) ds → All (IsShapedFor q) part
+part_shaped q ds part among shaped k d lt =
+    All-contains (IsShapedFor q) ds (get_or part k d) shaped (among (get_or part k d) (Contains-get_or part k d lt))
 
-  module _ (ds : List Disjunct) (i : ℕ) (d : Disjunct) (inside : i < length ds) (is : d ≡ get_or ds i d) where
-    front : take (i + 1) ds ≡ take i ds ++ d ∷ []
-    front = take_more ds i d inside ∙ ap (λ e. take i ds ++ e ∷ []) (sym is)
+module _ (ds front back : List Disjunct) (whole : ds ≡ front ++ back) where
+  pub in_front : (d : Disjunct) → Contains front d → Contains ds d
+  in_front d c = subst (λ l. Contains l d) (sym whole) (Contains-append_left front back d c)
 
-    here : Contains ds d
-    here = subst (Contains ds) (sym is) (Contains-get_or ds i d inside)
+  pub in_back : (d : Disjunct) → Contains back d → Contains ds d
+  in_back d c = subst (λ l. Contains l d) (sym whole) (Contains-append_right front back d c)
 
-    -- one more disjunct
-    pub unites_more : (old more new : Table) → Unites h index q limit (take i ds) old
-        → ((axioms : List Axiom) (facts : List Fact) → AreBehind h index axioms facts
-        → AreExactly (HasOverNames axioms facts d) more.tuples)
-        → new.width ≡ old.width → length new.tuples ≤ limit
-        → AreExactly (λ t. Contains old.tuples t ⊎ Contains more.tuples t) new.tuples
-        → Unites h index q limit (take (i + 1) ds) new
-    unites_more old more new before has width within union = record {
-      width = width ∙ before.width;
-      ascending = union.ascending;
-      within = within;
-      exact = λ axioms facts behind t.
-          subst (λ l. Contains new.tuples t ↔ SomeHasOverNames axioms facts l t) (sym front) (
-            λ c. (some_pushed axioms facts (take i ds) d t).1 (elim ((union.exact t).0 c) [
-              | inl old ↦ inl ((before.exact axioms facts behind t).0 old)
-              | inr one ↦ inr (((has axioms facts behind).exact t).0 one)
-            ]),
-            λ some. (union.exact t).1 (elim ((some_pushed axioms facts (take i ds) d t).0 some) [
-              | inl before_it ↦ inl ((before.exact axioms facts behind t).1 before_it)
-              | inr one ↦ inr (((has axioms facts behind).exact t).1 one)
-            ]),
-          );
-    }
+  in_either : (axioms : List Axiom) (facts : List Fact) (t : List ℕ)
+      → (SomeHasOverNames axioms facts front t ⊎ SomeHasOverNames axioms facts back t) ↔ SomeHasOverNames axioms facts ds t
+  in_either axioms facts t = (
+    λ either. elim either [
+      | inl some ↦ record { disjunct = some.disjunct; is_one = in_front some.disjunct some.is_one; has = some.has }
+      | inr some ↦ record { disjunct = some.disjunct; is_one = in_back some.disjunct some.is_one; has = some.has }
+    ],
+    λ some. elim (Contains-append_cases front back some.disjunct
+        (subst (λ l. Contains l some.disjunct) whole some.is_one)) [
+          | inl there ↦ inl record { disjunct = some.disjunct; is_one = there; has = some.has }
+          | inr there ↦ inr record { disjunct = some.disjunct; is_one = there; has = some.has }
+        ],
+  )
 
-    module _ (shaped : All (IsShapedFor q) ds) (axioms : List Axiom) (facts : List Fact)
-        (behind : AreBehind h index axioms facts) where
-      -- where one disjunct has too many tuples, all have
-      pub too_many_of_one : (e : JoinFault) → GivesTuples (HasOverNames axioms facts d) limit (Err e)
-          → GivesTuples (SomeHasOverNames axioms facts ds) limit (Err e)
-      too_many_of_one TooMany over =
-          over_more limit (HasOverNames axioms facts d) (SomeHasOverNames axioms facts ds)
-          (λ t has. record { disjunct = d; is_one = here; has = has })
-          record {
-            tuples = over.tuples;
-            ascending = over.exact.ascending;
-            each = λ k t lt. (over.exact.exact (get_or over.tuples k t)).0 (Contains-get_or over.tuples k t lt);
-            longer = over.longer;
-          }
+module _ (h : Hierarchy) (index : FactsByPredicate) (q : Query) (limit : ℕ) (ds : List Disjunct)
+    (shaped : All (IsShapedFor q) ds) (axioms : List Axiom) (facts : List Fact) (behind : AreBehind h index axioms facts)
+  where
+    -- where a part has too many tuples, all have
+    pub part_over : (part : List Disjunct) → ((d : Disjunct) → Contains part d → Contains ds d) → (e : JoinFault)
+        → GivesTuples (SomeHasOverNames axioms facts part) limit (Err e)
+        → GivesTuples (SomeHasOverNames axioms facts ds) limit (Err e)
+    part_over part among TooMany over =
+        over_more limit (SomeHasOverNames axioms facts part) (SomeHasOverNames axioms facts ds)
+        (λ t some. record { disjunct = some.disjunct; is_one = among some.disjunct some.is_one; has = some.has })
+        record {
+          tuples = over.tuples;
+          ascending = over.exact.ascending;
+          each = λ k t lt. (over.exact.exact (get_or over.tuples k t)).0 (Contains-get_or over.tuples k t lt);
+          longer = over.longer;
+        }
+        (some_exist axioms facts h index behind q ds shaped)
+    part_over part among NoMemory over = tt
+
+    module _ (front back : List Disjunct) (whole : ds ≡ front ++ back) (one two : Table)
+        (has_one : AreExactly (SomeHasOverNames axioms facts front) one.tuples)
+        (has_two : AreExactly (SomeHasOverNames axioms facts back) two.tuples) where
+      abbrev Either : List ℕ → Type 0
+      Either tuple = Contains one.tuples tuple ⊎ Contains two.tuples tuple
+
+      either_has : (t : List ℕ) → Either t ↔ SomeHasOverNames axioms facts ds t
+      either_has t = (
+        λ either. (in_either ds front back whole axioms facts t).0 (elim either [
+          | inl c ↦ inl ((has_one.exact t).0 c)
+          | inr c ↦ inr ((has_two.exact t).0 c)
+        ]),
+        λ some. elim ((in_either ds front back whole axioms facts t).1 some) [
+          | inl has ↦ inl ((has_one.exact t).1 has)
+          | inr has ↦ inr ((has_two.exact t).1 has)
+        ],
+      )
+
+      -- the union of the tuples of both parts
+      pub both_given : (result : Result Table JoinFault) → IfOk result (λ all. AreExactly Either all.tuples)
+          → IfOk result (λ all. length all.tuples ≤ limit) → (result ≡ Err TooMany → AreMoreThan limit Either)
+          → GivesTuples (SomeHasOverNames axioms facts ds) limit result
+      both_given (Ok all) exact within many =
+          (exactly_same Either (SomeHasOverNames axioms facts ds) either_has all.tuples exact, within)
+      both_given (Err TooMany) exact within many =
+          over_more limit Either (SomeHasOverNames axioms facts ds) (λ t. (either_has t).0) (many refl)
           (some_exist axioms facts h index behind q ds shaped)
-      too_many_of_one NoMemory over = tt
-
-      -- where the union of some has, all have
-      pub too_many_of_some : (old more : Table) (e : JoinFault) → Unites h index q limit (take i ds) old
-          → AreExactly (HasOverNames axioms facts d) more.tuples
-          → (e ≡ TooMany → AreMoreThan limit (λ t. Contains old.tuples t ⊎ Contains more.tuples t))
-          → GivesTuples (SomeHasOverNames axioms facts ds) limit (Err e)
-      too_many_of_some old more TooMany before has many =
-          over_more limit (λ t. Contains old.tuples t ⊎ Contains more.tuples t) (SomeHasOverNames axioms facts ds)
-          (λ t either. elim either [
-            | inl old ↦ some_of_front t ((before.exact axioms facts behind t).0 old)
-            | inr one ↦ record { disjunct = d; is_one = here; has = (has.exact t).0 one }
-          ])
-          (many refl) (some_exist axioms facts h index behind q ds shaped)
-        where
-          some_of_front : (t : List ℕ) → SomeHasOverNames axioms facts (take i ds) t → SomeHasOverNames axioms facts ds t
-          some_of_front t some = record {
-            disjunct = some.disjunct;
-            is_one = subst (λ l. Contains l some.disjunct) (take-append-drop i ds)
-                (Contains-append_left (take i ds) (drop i ds) some.disjunct some.is_one);
-            has = some.has;
-          }
-      too_many_of_some old more NoMemory before has many = tt
-
--- all of them
-pub all_united : (h : Hierarchy) (index : FactsByPredicate) (q : Query) (limit : ℕ) (ds : List Disjunct) (i : ℕ)
-    (table : Table) → length ds ≤ i → Unites h index q limit (take i ds) table
-    → (axioms : List Axiom) (facts : List Fact) → AreBehind h index axioms facts
-    → GivesTuples (SomeHasOverNames axioms facts ds) limit (Ok table)
-all_united h index q limit ds i table end united axioms facts behind =
-    let whole = subst (λ l. Unites h index q limit l table) (take_all i ds end) united in
-    (record { ascending = whole.ascending; exact = whole.exact axioms facts behind }, whole.within)
+      both_given (Err NoMemory) exact within many = tt

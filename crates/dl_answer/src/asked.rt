@@ -20,6 +20,7 @@ ghost use Rattle.dl_answer.specs.Verdicts.{fault_of};
 use crate::broken::{Verdict, first_broken};
 use crate::certain::certain;
 use crate::facts::by_predicate;
+use crate::slots::KeptLists;
 use crate::{Answer, AskFault};
 use dl_epoch::Epoch;
 use dl_join::JoinFault;
@@ -56,12 +57,13 @@ pub fn ask_facts(
     ensures { RepliesTo axioms.now facts.now nothing query.now limit 1 result }
 {
     let epoch = epoch_of(alloc, axioms, signature)?;
+    let mut kept = KeptLists::new(alloc, facts.len())?;
     let facts = by_predicate(alloc, Arc::try_clone(&epoch)?, facts)?;
     let hier = epoch.hier();
-    let verdict = first_broken(alloc, hier, &facts, axioms, nothing)?;
+    let verdict = first_broken(alloc, hier, &facts, axioms, &mut kept, nothing)?;
     match verdict {
         Verdict::Broken(axiom) => Ok(Answer::Inconsistent { version: 1, axiom }),
-        Verdict::Sound => told(certain(alloc, hier, &facts, query, limit)),
+        Verdict::Sound => told(certain(alloc, hier, &facts, query, &mut kept, limit)),
     }
 }
 

@@ -5,10 +5,12 @@ ghost use Rattle.dl_terms.specs.Broken.{IsMet};
 ghost use Rattle.dl_terms.specs.declared.axiom.Axiom.{Axiom};
 ghost use Rattle.dl_terms.specs.declared.axiom.Fact.{Fact};
 ghost use Rattle.dl_answer.specs.Probes.{AreBehind};
+ghost use Rattle.dl_answer.specs.Kept.{AreKept};
 ghost use Rattle.dl_answer.specs.Verdicts.{FindsMet, HasMember, Finds};
 
 use crate::certain::certain;
 use crate::index::FactsByPredicate;
+use crate::slots::KeptLists;
 use dl_deny::{copy_of, query_of};
 use dl_hier::Hier;
 use dl_join::JoinFault;
@@ -31,18 +33,21 @@ pub(crate) fn first_broken(
     hier: &Hier,
     facts: &FactsByPredicate,
     axioms: &[Axiom],
+    kept: &mut KeptLists,
     nothing: Option<u32>,
 ) -> Result<Verdict, NoMemory>
-    requires { length axioms.now < 2 ^ 32 }
-    ensures { IfOk result (λ verdict. (known : Items Fact) → AreBehind hier.now facts.now axioms.now known →
+    requires count { length axioms.now < 2 ^ 32 }
+    requires kept { AreKept hier.now facts.now kept.old }
+    ensures kept { AreKept hier.now facts.now kept.new }
+    ensures verdict { IfOk result (λ verdict. (known : Items Fact) → AreBehind hier.now facts.now axioms.now known →
         Finds axioms.now known nothing verdict) }
 {
     let normal = normal(alloc, axioms)?;
-    if let Some(index) = first_met(alloc, hier, facts, normal.negatives.as_slice())? {
+    if let Some(index) = first_met(alloc, hier, facts, kept, normal.negatives.as_slice())? {
         let copy = copy_of(alloc, &axioms[index as usize])?;
         return Ok(Verdict::Broken(Some(copy)));
     }
-    if has_member(alloc, hier, facts, nothing)? {
+    if has_member(alloc, hier, facts, kept, nothing)? {
         return Ok(Verdict::Broken(None));
     }
     Ok(Verdict::Sound)
@@ -53,15 +58,18 @@ fn first_met(
     alloc: Global,
     hier: &Hier,
     facts: &FactsByPredicate,
+    kept: &mut KeptLists,
     negatives: &[(u32, Negative)],
 ) -> Result<Option<u32>, NoMemory>
+    requires kept { AreKept hier.now facts.now kept.old }
+    ensures kept { AreKept hier.now facts.now kept.new }
     ensures there { IfOk result (λ found.
         IfSome found (λ index. (n : Negative) × Contains negatives.now (index, n))) }
     ensures first { IfOk result (λ found. (axioms : Items Axiom) (known : Items Fact) →
         AreBehind hier.now facts.now axioms known → FindsMet (IsMet axioms known) negatives.now found) }
 {
     for (index, negative) in negatives {
-        if is_met(alloc, hier, facts, *negative)? {
+        if is_met(alloc, hier, facts, kept, *negative)? {
             return Ok(Some(*index));
         }
     }
@@ -73,15 +81,18 @@ fn has_member(
     alloc: Global,
     hier: &Hier,
     facts: &FactsByPredicate,
+    kept: &mut KeptLists,
     nothing: Option<u32>,
 ) -> Result<bool, NoMemory>
-    ensures { IfOk result (λ has. (axioms : Items Axiom) (known : Items Fact) →
+    requires kept { AreKept hier.now facts.now kept.old }
+    ensures kept { AreKept hier.now facts.now kept.new }
+    ensures member { IfOk result (λ has. (axioms : Items Axiom) (known : Items Fact) →
         AreBehind hier.now facts.now axioms known → IsTrue has ↔ HasMember axioms known nothing) }
 {
     match nothing {
         Some(class) => {
             let class = Basic::Class(class);
-            is_met(alloc, hier, facts, Negative::Basics(class, class))
+            is_met(alloc, hier, facts, kept, Negative::Basics(class, class))
         }
         None => Ok(false),
     }
@@ -92,13 +103,16 @@ fn is_met(
     alloc: Global,
     hier: &Hier,
     facts: &FactsByPredicate,
+    kept: &mut KeptLists,
     negative: Negative,
 ) -> Result<bool, NoMemory>
-    ensures { IfOk result (λ met. (axioms : Items Axiom) (known : Items Fact) →
+    requires kept { AreKept hier.now facts.now kept.old }
+    ensures kept { AreKept hier.now facts.now kept.new }
+    ensures met { IfOk result (λ met. (axioms : Items Axiom) (known : Items Fact) →
         AreBehind hier.now facts.now axioms known → IsTrue met ↔ IsMet axioms known negative) }
 {
     let query = query_of(alloc, negative)?;
-    match certain(alloc, hier, facts, &query, 1) {
+    match certain(alloc, hier, facts, &query, kept, 1) {
         Ok(tuples) => Ok(tuples.len() > 0),
         Err(JoinFault::TooMany) => Ok(true),
         Err(JoinFault::NoMemory) => Err(NoMemory),

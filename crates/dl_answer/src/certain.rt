@@ -1,5 +1,5 @@
 // The certain answers of a query: the tuples of the disjuncts of its rewriting, united.
-ghost use Rattle.std.specs.Prelude.{◌≡◌, ℕ, ◌⊎◌, ◌≤◌, List as Items, length, IfOk};
+ghost use Rattle.std.specs.Prelude.{◌≡◌, ◌⊎◌, ◌<◌, ◌≤◌, List as Items, length, IfOk};
 ghost use Rattle.std.specs.List.{All, Contains};
 ghost use Rattle.dl_terms.specs.Answers.{IsCertain, AscendStrictly};
 ghost use Rattle.dl_terms.specs.Queries.{IsWellFormed};
@@ -9,10 +9,12 @@ ghost use Rattle.dl_join.specs.Tuples.{AreExactly, AreMoreThan};
 ghost use Rattle.dl_rewrite.specs.OverNames.{SomeHasOverNames};
 ghost use Rattle.dl_rewrite.specs.Shape.{IsShapedFor};
 ghost use Rattle.dl_answer.specs.Probes.{AreBehind};
+ghost use Rattle.dl_answer.specs.Kept.{AreKept};
 ghost use Rattle.dl_answer.specs.Replies.{GivesTuples};
 
 use crate::index::FactsByPredicate;
 use crate::probes::tuples_of;
+use crate::slots::KeptLists;
 use dl_hier::Hier;
 use dl_join::{JoinFault, merge};
 use dl_rewrite::rewrite;
@@ -25,39 +27,75 @@ pub(crate) fn certain(
     hier: &Hier,
     facts: &FactsByPredicate,
     query: &Query,
+    kept: &mut KeptLists,
     limit: u64,
 ) -> Result<Tuples, JoinFault>
     requires query { IsWellFormed query.now }
-    ensures { (axioms : Items Axiom) (known : Items Fact) → AreBehind hier.now facts.now axioms known →
+    requires kept { AreKept hier.now facts.now kept.old }
+    ensures kept { AreKept hier.now facts.now kept.new }
+    ensures tuples { (axioms : Items Axiom) (known : Items Fact) → AreBehind hier.now facts.now axioms known →
         GivesTuples (IsCertain axioms known query.now) limit result }
 {
     let disjuncts = rewrite(alloc, hier, query)?;
-    united(alloc, hier, facts, query, disjuncts.as_slice(), limit)
+    united(alloc, hier, facts, query, disjuncts.as_slice(), kept, limit)
 }
 
 /// The tuples that one of some disjuncts of a query has, each once, ascending. `TooMany` comes exactly where they are
-/// more than the limit.
+/// more than the limit. Those of the front half and of the back half are united, so that a tuple is copied as often
+/// as the disjuncts can be halved, and not once for each of them.
 fn united(
     alloc: Global,
     hier: &Hier,
     facts: &FactsByPredicate,
     query: &Query,
     disjuncts: &[Disjunct],
+    kept: &mut KeptLists,
     limit: u64,
 ) -> Result<Tuples, JoinFault>
     requires query { IsWellFormed query.now }
     requires shaped { All (IsShapedFor query.now) disjuncts.now }
-    ensures { (axioms : Items Axiom) (known : Items Fact) → AreBehind hier.now facts.now axioms known →
+    requires kept { AreKept hier.now facts.now kept.old }
+    ensures kept { AreKept hier.now facts.now kept.new }
+    ensures ascending { IfOk result (λ tuples. AscendStrictly tuples.tuples) }
+    ensures width { IfOk result (λ tuples. tuples.width ≡ length query.now.head) }
+    ensures within { IfOk result (λ tuples. length tuples.tuples ≤ limit) }
+    ensures tuples { (axioms : Items Axiom) (known : Items Fact) → AreBehind hier.now facts.now axioms known →
         GivesTuples (SomeHasOverNames axioms known disjuncts.now) limit result }
 {
-    let mut tuples = Tuples::new(alloc, query.head.len() as u32);
-    let mut kept = Vec::new(alloc);
-    for (i, disjunct) in disjuncts.iter().enumerate() {
-        let later = &disjuncts[i + 1..];
-        let more = tuples_of(alloc, hier, facts, disjunct, later, &mut kept, limit)?;
-        tuples = union(alloc, tuples, more, limit)?;
+    if disjuncts.len() < 2 {
+        return of_first(alloc, hier, facts, query, disjuncts, kept, limit);
     }
-    Ok(tuples)
+    let (front, back) = disjuncts.split_at(disjuncts.len() / 2);
+    let one = united(alloc, hier, facts, query, front, kept, limit)?;
+    let two = united(alloc, hier, facts, query, back, kept, limit)?;
+    union(alloc, one, two, limit)
+}
+
+/// The tuples of the only disjunct, or none where there is none.
+fn of_first(
+    alloc: Global,
+    hier: &Hier,
+    facts: &FactsByPredicate,
+    query: &Query,
+    disjuncts: &[Disjunct],
+    kept: &mut KeptLists,
+    limit: u64,
+) -> Result<Tuples, JoinFault>
+    requires query { IsWellFormed query.now }
+    requires shaped { All (IsShapedFor query.now) disjuncts.now }
+    requires one { length disjuncts.now < 2 }
+    requires kept { AreKept hier.now facts.now kept.old }
+    ensures kept { AreKept hier.now facts.now kept.new }
+    ensures ascending { IfOk result (λ tuples. AscendStrictly tuples.tuples) }
+    ensures width { IfOk result (λ tuples. tuples.width ≡ length query.now.head) }
+    ensures within { IfOk result (λ tuples. length tuples.tuples ≤ limit) }
+    ensures tuples { (axioms : Items Axiom) (known : Items Fact) → AreBehind hier.now facts.now axioms known →
+        GivesTuples (SomeHasOverNames axioms known disjuncts.now) limit result }
+{
+    if disjuncts.len() == 0 {
+        return Ok(Tuples::new(alloc, query.head.len() as u32));
+    }
+    tuples_of(alloc, hier, facts, &disjuncts[0], kept, limit)
 }
 
 /// The tuples of two lists, each once, ascending. `TooMany` comes exactly where they are more than the limit. Where

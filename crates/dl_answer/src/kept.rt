@@ -1,105 +1,243 @@
-// The lists of probes that several disjuncts have, each made once.
-ghost use Rattle.std.specs.Prelude.{◌≡◌, ◌↔◌, List as Items, IfOk, IfSome, OnOk, IsTrue};
-ghost use Rattle.std.specs.List.{All, Any};
+// The lists of probes, each made once for all probes that ask the same, of one query or of many.
+ghost use Rattle.std.specs.Prelude.{◌≡◌, ◌↔◌, ◌<◌, ◌≤◌, ◌⊎◌, List as Items, length, vec_len, IfOk, IfSome, IsTrue};
+ghost use Rattle.std.specs.List.{All};
+ghost use Rattle.std.specs.declared.option.Option.{Option as Maybe};
 ghost use Rattle.dl_hier.specs.Hierarchy.{Hierarchy};
 ghost use Rattle.dl_answer.specs.Probes.{AsksOneOf, AsksRole, AskAlike, IsListOf};
-ghost use Rattle.dl_answer.specs.Kept.{IsKept};
+ghost use Rattle.dl_answer.specs.Kept.{IsKept, IsSlotKept, AreKept, AreFirst};
 ghost use Rattle.dl_answer.specs.declared.index.FactsByPredicate.{FactsByPredicate};
 
-use crate::index::FactsByPredicate;
-use crate::probes::list_of;
-use dl_hier::Hier;
-use dl_terms::{Basic, Disjunct, List, NoMemory, Pair, Probe};
+use crate::slots::{Kept, KeptLists};
+use dl_terms::{Base, Basic, List, Pair, Probe, Role};
 use std::alloc::{AllocError, Global};
 use std::cmp::Ordering;
+use std::mem;
 
-/// A probe, and the sorted list of its pairs.
-#[derive(Drop)]
-pub(crate) struct Kept<'a> {
-    probe: &'a Probe,
-    pairs: List<Pair>,
+/// How many slots there are for lists, and how far apart those of different kinds of what is asked begin.
+const SLOTS: usize = 8192;
+
+const QUARTER: usize = 2048;
+
+/// How many pairs may be kept for each fact. No list has more than two for each, so lists are let go for want of room only
+/// after as many pairs were listed as any of them has.
+const PAIRS_A_FACT: usize = 4;
+
+/// How many pairs and basic concepts more may be kept, so that few facts don't make the lists go.
+const ROOM: usize = 1_048_576;
+
+impl KeptLists {
+    /// No list, and the room for a number of facts.
+    pub(crate) fn new(alloc: Global, facts: usize) -> Result<KeptLists, AllocError>
+        ensures { IfOk result (λ kept. (h : Hierarchy) (index : FactsByPredicate) → AreKept h index kept) }
+    {
+        let most = facts.saturating_mul(PAIRS_A_FACT).saturating_add(ROOM);
+        let slots = empty_slots(alloc)?;
+        Ok(KeptLists {
+            slots,
+            room: most,
+            most,
+        })
+    }
+
+    /// Moves the list out that is kept of a probe like this one. Another list in its slot is let go.
+    pub(crate) fn take(&mut self, probe: &Probe) -> Option<List<Pair>>
+        ensures kept { (h : Hierarchy) (index : FactsByPredicate) → AreKept h index self.old → AreKept h index self.new }
+        ensures list { (h : Hierarchy) (index : FactsByPredicate) → AreKept h index self.old
+            → IfSome result (IsListOf h index probe.now) }
+    {
+        match self.empty(slot_of(probe)) {
+            Some(kept) => pairs_for(kept, probe),
+            None => None,
+        }
+    }
+
+    /// Keeps the list of a probe, in place of what is in its slot. All lists go first where it finds no room among
+    /// them, and this one goes where it finds none at all.
+    pub(crate) fn keep(
+        &mut self,
+        alloc: Global,
+        probe: &Probe,
+        pairs: List<Pair>,
+    ) -> Result<(), AllocError>
+        ensures { (h : Hierarchy) (index : FactsByPredicate) → AreKept h index self.old
+            → IsListOf h index probe.now pairs → AreKept h index self.new }
+    {
+        let slot = slot_of(probe);
+        self.empty(slot);
+        let weight = weight_of(probe, pairs.as_slice());
+        self.make_room(alloc, weight)?;
+        if weight > self.room {
+            return Ok(());
+        }
+        let probe = copy_of_probe(alloc, probe)?;
+        self.room -= weight;
+        self.slots[slot] = Some(Kept { probe, pairs });
+        Ok(())
+    }
+
+    /// Lets all lists go where there is too little room for a weight.
+    fn make_room(&mut self, alloc: Global, weight: usize) -> Result<(), AllocError>
+        ensures { (h : Hierarchy) (index : FactsByPredicate) → AreKept h index self.old → AreKept h index self.new }
+    {
+        if weight <= self.room {
+            return Ok(());
+        }
+        self.slots = empty_slots(alloc)?;
+        self.room = self.most;
+        Ok(())
+    }
+
+    /// Moves out what is in a slot.
+    fn empty(&mut self, slot: usize) -> Option<Kept>
+        requires { slot < 8192 }
+        ensures kept { (h : Hierarchy) (index : FactsByPredicate) → AreKept h index self.old → AreKept h index self.new }
+        ensures one { (h : Hierarchy) (index : FactsByPredicate) → AreKept h index self.old
+            → IfSome result (IsKept h index) }
+    {
+        let kept = mem::replace(&mut self.slots[slot], None);
+        self.room = self.room.saturating_add(weight_in(&kept));
+        kept
+    }
 }
 
-/// The sorted list of the pairs of a probe: a copy of the one that is kept of a probe like it, or a new one. A copy of
-/// a new one is kept where one of the disjuncts that are still to come has a probe like it.
-pub(crate) fn shared_list<'a>(
+/// Slots without lists.
+fn empty_slots(alloc: Global) -> Result<Vec<Option<Kept>>, AllocError>
+    ensures count { IfOk result (λ slots. vec_len slots ≡ 8192) }
+    ensures none { IfOk result (λ slots. All (λ slot. slot ≡ None) slots.items) }
+{
+    let mut slots = Vec::new(alloc);
+    for _slot in 0..SLOTS {
+        slots.push(None)?;
+    }
+    Ok(slots)
+}
+
+/// The pairs that are kept, where a probe asks for them.
+fn pairs_for(kept: Kept, probe: &Probe) -> Option<List<Pair>>
+    ensures { (h : Hierarchy) (index : FactsByPredicate) → IsKept h index kept
+        → IfSome result (IsListOf h index probe.now) }
+{
+    if ask_alike(&kept.probe, probe) {
+        Some(kept.pairs)
+    } else {
+        None
+    }
+}
+
+/// Keeps the lists of the first of some probes.
+pub(crate) fn keep_all(
     alloc: Global,
-    hier: &Hier,
-    facts: &FactsByPredicate,
-    probe: &'a Probe,
-    later: &[Disjunct],
-    kept: &mut Vec<Kept<'a>>,
-) -> Result<List<Pair>, NoMemory>
-    requires kept { All (IsKept hier.now facts.now) kept.old.items }
-    ensures list { IfOk result (IsListOf hier.now facts.now probe.now) }
-    ensures kept { OnOk result (All (IsKept hier.now facts.now) kept.new.items) }
+    probes: &[Probe],
+    lists: List<List<Pair>>,
+    kept: &mut KeptLists,
+) -> Result<(), AllocError>
+    requires { length lists ≤ length probes.now }
+    ensures { (h : Hierarchy) (index : FactsByPredicate) → AreKept h index kept.old
+        → AreFirst h index probes.now lists → AreKept h index kept.new }
 {
-    if let Some(pairs) = found(kept.as_slice(), probe) {
-        return Ok(copy_of(alloc, pairs)?);
+    let mut rest = lists.into_vec();
+    while let Some(pairs) = rest.pop() {
+        kept.keep(alloc, &probes[rest.len()], pairs)?;
     }
-    let pairs = list_of(alloc, hier, facts, probe)?;
-    if is_asked(later, probe) {
-        keep(alloc, probe, pairs.as_slice(), kept)?;
-    }
-    Ok(pairs)
+    Ok(())
 }
 
-/// The list that is kept of a probe like this one.
-fn found<'b>(kept: &'b [Kept<'_>], probe: &Probe) -> Option<&'b [Pair]>
-    ensures { (h : Hierarchy) (index : FactsByPredicate) → All (IsKept h index) kept.now →
-        IfSome result (λ pairs. IsListOf h index probe.now pairs.now) }
+/// The list of an earlier probe that asks the same, where there is one, of the lists of the first of some probes.
+pub(crate) fn earlier<'a>(
+    probes: &[Probe],
+    lists: &'a [List<Pair>],
+    probe: &Probe,
+) -> Option<&'a [Pair]>
+    requires { length lists.now ≤ length probes.now }
+    ensures { (h : Hierarchy) (index : FactsByPredicate) → AreFirst h index probes.now lists.now
+        → IfSome result (λ pairs. IsListOf h index probe.now pairs.now) }
 {
-    for one in kept {
-        if ask_alike(one.probe, probe) {
-            return Some(one.pairs.as_slice());
+    for (k, pairs) in lists.iter().enumerate() {
+        if ask_alike(&probes[k], probe) {
+            return Some(pairs.as_slice());
         }
     }
     None
 }
 
-/// Keeps a copy of the list of a probe.
-fn keep<'a>(
-    alloc: Global,
-    probe: &'a Probe,
-    pairs: &[Pair],
-    kept: &mut Vec<Kept<'a>>,
-) -> Result<(), AllocError>
-    ensures { (h : Hierarchy) (index : FactsByPredicate) → All (IsKept h index) kept.old.items →
-        IsListOf h index probe.now pairs.now → OnOk result (All (IsKept h index) kept.new.items) }
-{
-    let copy = copy_of(alloc, pairs)?;
-    kept.push(Kept { probe, pairs: copy })?;
-    Ok(())
+/// The weight of what is in a slot.
+fn weight_in(slot: &Option<Kept>) -> usize {
+    match slot {
+        Some(kept) => weight_of(&kept.probe, kept.pairs.as_slice()),
+        None => 0,
+    }
 }
 
-fn copy_of(alloc: Global, pairs: &[Pair]) -> Result<List<Pair>, AllocError>
-    ensures { IfOk result (λ copy. copy ≡ pairs.now) }
+/// How many pairs a list has, and how many basic concepts its probe.
+fn weight_of(probe: &Probe, pairs: &[Pair]) -> usize {
+    match probe {
+        Probe::AnyOf { basics, .. } => basics.len().saturating_add(pairs.len()),
+        Probe::Joined { .. } => pairs.len(),
+    }
+}
+
+/// The slot of the list of what a probe asks. Classes whose numbers follow one another have different ones.
+fn slot_of(probe: &Probe) -> usize
+    ensures { result < 8192 }
 {
-    let copy = pairs.iter().copied().collect(alloc)?;
+    let number = match probe {
+        Probe::AnyOf { basics, .. } => number_of(basics.as_slice()),
+        Probe::Joined { role, .. } => number_after(QUARTER * 3, *role),
+    };
+    number % SLOTS
+}
+
+/// A number of some basic concepts, which tells those alone apart whose first one or whose count differs.
+fn number_of(basics: &[Basic]) -> usize {
+    match basics.first() {
+        Some(basic) => number_of_basic(*basic).saturating_add(basics.len()),
+        None => 0,
+    }
+}
+
+fn number_of_basic(basic: Basic) -> usize {
+    match basic {
+        Basic::Class(class) => number_after(0, class),
+        Basic::SomeOf(role) => number_of_role(role),
+    }
+}
+
+fn number_of_role(role: Role) -> usize {
+    let start = if role.inverse { QUARTER * 2 } else { QUARTER };
+    match role.base {
+        Base::Named(name) => number_after(start, name),
+        Base::Filler { class, .. } => number_after(start, class),
+    }
+}
+
+/// A number that is so much greater.
+fn number_after(start: usize, name: u32) -> usize {
+    start.saturating_add(name as usize)
+}
+
+/// A copy of a probe.
+fn copy_of_probe(alloc: Global, probe: &Probe) -> Result<Probe, AllocError>
+    ensures { IfOk result (λ copy. copy ≡ probe.now) }
+{
+    match probe {
+        Probe::AnyOf { basics, at } => {
+            let basics = copy_of(alloc, basics.as_slice())?;
+            Ok(Probe::AnyOf { basics, at: *at })
+        }
+        Probe::Joined { role, from, to } => Ok(Probe::Joined {
+            role: *role,
+            from: *from,
+            to: *to,
+        }),
+    }
+}
+
+/// A copy of a list.
+pub(crate) fn copy_of<T: Copy + Drop>(alloc: Global, items: &[T]) -> Result<List<T>, AllocError>
+    ensures { IfOk result (λ copy. copy ≡ items.now) }
+{
+    let copy = items.iter().copied().collect(alloc)?;
     Ok(List::of(copy))
-}
-
-/// Whether one of some disjuncts has a probe like this one.
-fn is_asked(disjuncts: &[Disjunct], probe: &Probe) -> bool
-    ensures { IsTrue result ↔ Any (λ d. Any (AskAlike probe.now) d.probes) disjuncts.now }
-{
-    for disjunct in disjuncts {
-        if is_among(disjunct.probes.as_slice(), probe) {
-            return true;
-        }
-    }
-    false
-}
-
-fn is_among(probes: &[Probe], probe: &Probe) -> bool
-    ensures { IsTrue result ↔ Any (AskAlike probe.now) probes.now }
-{
-    for one in probes {
-        if ask_alike(probe, one) {
-            return true;
-        }
-    }
-    false
 }
 
 /// Whether two probes ask the same, of whatever terms.

@@ -12,6 +12,7 @@ mod kept;
 mod known;
 mod pairs;
 mod probes;
+mod slots;
 
 pub use answer::Answer;
 pub use asked::ask_facts;

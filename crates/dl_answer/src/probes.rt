@@ -1,77 +1,151 @@
 // The lists of the pairs of probes, and the tuples of a disjunct over them.
-ghost use Rattle.std.specs.Prelude.{◌≡◌, ◌<◌, ◌≤◌, ◌^◌, ℕ, List as Items, [], length, IfOk, OnOk, MatchOption};
-ghost use Rattle.std.specs.List.{All, Any};
+ghost use Rattle.std.specs.Prelude.{◌≡◌, ◌<◌, ◌≤◌, ◌^◌, ◌⊎◌, ◌↔◌, List as Items, [], length, IfOk, IsTrue};
+ghost use Rattle.std.specs.List.{Any};
 ghost use Rattle.dl_terms.specs.Roles.{named};
 ghost use Rattle.dl_terms.specs.Answers.{AscendStrictly};
 ghost use Rattle.dl_terms.specs.declared.axiom.Axiom.{Axiom};
 ghost use Rattle.dl_terms.specs.declared.axiom.Fact.{Fact};
-ghost use Rattle.dl_hier.specs.Hierarchy.{IsHierarchyOf};
-ghost use Rattle.dl_join.specs.Disjuncts.{IsSafe};
+ghost use Rattle.dl_hier.specs.Hierarchy.{Hierarchy, IsHierarchyOf};
+ghost use Rattle.dl_join.specs.Disjuncts.{IsSafe, AreSorted};
 ghost use Rattle.dl_rewrite.specs.OverNames.{HasOverNames};
 ghost use Rattle.dl_answer.specs.OverNames.{AreBelow};
-ghost use Rattle.dl_answer.specs.Probes.{AreBelowProbe, AreBehind, IsListOf, AreListsOf};
-ghost use Rattle.dl_answer.specs.Kept.{IsKept};
+ghost use Rattle.dl_answer.specs.Probes.{AreBelowProbe, AreBehind, IsListOf};
+ghost use Rattle.dl_answer.specs.Kept.{AreKept, AreFirst};
+ghost use Rattle.dl_answer.specs.declared.index.FactsByPredicate.{FactsByPredicate};
 ghost use Rattle.dl_answer.specs.Replies.{GivesTuples};
 
 use crate::index::FactsByPredicate;
-use crate::kept::{Kept, shared_list};
+use crate::kept::{copy_of, earlier, keep_all};
 use crate::pairs::pairs_below;
+use crate::slots::KeptLists;
 use dl_hier::{Below, Hier};
 use dl_join::{JoinFault, join};
 use dl_terms::{Base, Disjunct, List, NoMemory, Pair, Probe, Role, Tuples};
 use std::alloc::Global;
 
 /// The tuples of a disjunct over names, each once, ascending. `TooMany` comes exactly where they are more than the
-/// limit. Lists of probes that later disjuncts have too are kept.
-pub(crate) fn tuples_of<'a>(
+/// limit. Lists that are kept of its probes are lent by moving them, and those that are made anew are kept after it.
+pub(crate) fn tuples_of(
     alloc: Global,
     hier: &Hier,
     facts: &FactsByPredicate,
-    disjunct: &'a Disjunct,
-    later: &[Disjunct],
-    kept: &mut Vec<Kept<'a>>,
+    disjunct: &Disjunct,
+    kept: &mut KeptLists,
     limit: u64,
 ) -> Result<Tuples, JoinFault>
     requires safe { IsSafe disjunct.now }
     requires variables { AreBelow disjunct.now.vars disjunct.now.probes }
     requires width { length disjunct.now.head < 2 ^ 32 }
-    requires kept { All (IsKept hier.now facts.now) kept.old.items }
-    ensures kept { OnOk result (All (IsKept hier.now facts.now) kept.new.items) }
+    requires kept { AreKept hier.now facts.now kept.old }
+    ensures kept { AreKept hier.now facts.now kept.new }
     ensures ascending { IfOk result (λ tuples. AscendStrictly tuples.tuples) }
     ensures width { IfOk result (λ tuples. tuples.width ≡ length disjunct.now.head) }
     ensures within { IfOk result (λ tuples. length tuples.tuples ≤ limit) }
     ensures tuples { (axioms : Items Axiom) (known : Items Fact) → AreBehind hier.now facts.now axioms known →
         GivesTuples (HasOverNames axioms known disjunct.now) limit result }
 {
-    match lists_of(alloc, hier, facts, disjunct.probes.as_slice(), later, kept)? {
-        Some(lists) => join(alloc, disjunct, lists.as_slice(), limit),
-        None => Ok(Tuples::new(alloc, disjunct.head.len() as u32)),
-    }
+    let probes = disjunct.probes.as_slice();
+    let lists = lists_of(alloc, hier, facts, probes, kept)?;
+    let tuples = tuples_over(alloc, disjunct, lists.as_slice(), limit);
+    keep_all(alloc, probes, lists, kept)?;
+    tuples
 }
 
-/// One sorted list of pairs for each probe. None where one of them has no pair: nothing is listed behind it.
-fn lists_of<'a>(
+/// The tuples of a disjunct over the lists of its first probes, of all of them where none of the lists is empty.
+fn tuples_over(
+    alloc: Global,
+    disjunct: &Disjunct,
+    lists: &[List<Pair>],
+    limit: u64,
+) -> Result<Tuples, JoinFault>
+    requires safe { IsSafe disjunct.now }
+    requires variables { AreBelow disjunct.now.vars disjunct.now.probes }
+    requires width { length disjunct.now.head < 2 ^ 32 }
+    requires few { length lists.now ≤ length disjunct.now.probes }
+    requires whole { Any (λ pairs. pairs ≡ []) lists.now ⊎ (length lists.now ≡ length disjunct.now.probes) }
+    requires sorted { AreSorted lists.now }
+    ensures ascending { IfOk result (λ tuples. AscendStrictly tuples.tuples) }
+    ensures width { IfOk result (λ tuples. tuples.width ≡ length disjunct.now.head) }
+    ensures within { IfOk result (λ tuples. length tuples.tuples ≤ limit) }
+    ensures tuples { (h : Hierarchy) (index : FactsByPredicate) → AreFirst h index disjunct.now.probes lists.now →
+        (axioms : Items Axiom) (known : Items Fact) → AreBehind h index axioms known →
+        GivesTuples (HasOverNames axioms known disjunct.now) limit result }
+{
+    if some_is_empty(lists) {
+        return Ok(Tuples::new(alloc, disjunct.head.len() as u32));
+    }
+    join(alloc, disjunct, lists, limit)
+}
+
+/// Whether one of some lists is empty.
+fn some_is_empty(lists: &[List<Pair>]) -> bool
+    ensures { IsTrue result ↔ Any (λ pairs. pairs ≡ []) lists.now }
+{
+    for pairs in lists {
+        if is_empty(pairs) {
+            return true;
+        }
+    }
+    false
+}
+
+fn is_empty(pairs: &List<Pair>) -> bool
+    ensures { IsTrue result ↔ (pairs.now ≡ []) }
+{
+    pairs.len() == 0
+}
+
+/// One sorted list of pairs for each probe up to the first that has no pair: nothing is listed behind it.
+fn lists_of(
     alloc: Global,
     hier: &Hier,
     facts: &FactsByPredicate,
-    probes: &'a [Probe],
-    later: &[Disjunct],
-    kept: &mut Vec<Kept<'a>>,
-) -> Result<Option<List<List<Pair>>>, NoMemory>
-    requires kept { All (IsKept hier.now facts.now) kept.old.items }
-    ensures kept { OnOk result (All (IsKept hier.now facts.now) kept.new.items) }
-    ensures lists { IfOk result (λ found. MatchOption found
-        (Any (λ p. IsListOf hier.now facts.now p []) probes.now) (AreListsOf hier.now facts.now probes.now)) }
+    probes: &[Probe],
+    kept: &mut KeptLists,
+) -> Result<List<List<Pair>>, NoMemory>
+    requires kept { AreKept hier.now facts.now kept.old }
+    ensures kept { AreKept hier.now facts.now kept.new }
+    ensures few { IfOk result (λ lists. length lists ≤ length probes.now) }
+    ensures whole { IfOk result (λ lists.
+        Any (λ pairs. pairs ≡ []) lists ⊎ (length lists ≡ length probes.now)) }
+    ensures lists { IfOk result (AreFirst hier.now facts.now probes.now) }
 {
     let mut lists = List::new(alloc);
     for probe in probes {
-        let pairs = shared_list(alloc, hier, facts, probe, later, kept)?;
-        if pairs.len() == 0 {
-            return Ok(None);
-        }
+        let pairs = shared_list(alloc, hier, facts, probe, probes, lists.as_slice(), kept)?;
+        let none = is_empty(&pairs);
         lists.push(pairs)?;
+        if none {
+            return Ok(lists);
+        }
     }
-    Ok(Some(lists))
+    Ok(lists)
+}
+
+/// The sorted list of the pairs of a probe, with the lists of some probes before it: a copy of the list of one of these
+/// that asks the same, the one that is kept, or a new one.
+fn shared_list(
+    alloc: Global,
+    hier: &Hier,
+    facts: &FactsByPredicate,
+    probe: &Probe,
+    before: &[Probe],
+    lists: &[List<Pair>],
+    kept: &mut KeptLists,
+) -> Result<List<Pair>, NoMemory>
+    requires lists { AreFirst hier.now facts.now before.now lists.now }
+    requires few { length lists.now ≤ length before.now }
+    requires kept { AreKept hier.now facts.now kept.old }
+    ensures kept { AreKept hier.now facts.now kept.new }
+    ensures list { IfOk result (IsListOf hier.now facts.now probe.now) }
+{
+    if let Some(pairs) = earlier(before, lists, probe) {
+        return Ok(copy_of(alloc, pairs)?);
+    }
+    match kept.take(probe) {
+        Some(pairs) => Ok(pairs),
+        None => list_of(alloc, hier, facts, probe),
+    }
 }
 
 /// The sorted list of the pairs of a probe.

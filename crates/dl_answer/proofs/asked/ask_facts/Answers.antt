@@ -12,8 +12,8 @@ by_predicate-requires-clause-known c =
     (sym (ap (λ (e : Frozen). e.signature) c.in_ok-try_clone.ensures ∙ c.in_ok-epoch.ensures.signature))
     c.requires.predicates
 
-pub first_broken-requires : goal.first_broken-requires
-first_broken-requires c = few_axioms c.args.axioms.now c.requires.weight
+pub first_broken-requires-clause-count : goal.first_broken-requires-clause-count
+first_broken-requires-clause-count c = few_axioms c.args.axioms.now c.requires.weight
 
 pub returns-in-Broken : goal.returns-in-Broken
 returns-in-Broken c =
@@ -23,7 +23,7 @@ returns-in-Broken c =
     c.args.signature.now facts c.in_ok-epoch.ensures.axioms c.in_ok-epoch.ensures.signature
     (subst (λ (e : Frozen). IsHierarchyIn e c.hier-hier.result.now) c.deref.ensures c.hier-hier.ensures)
     c.requires.known c.requires.predicates c.in_ok-facts.ensures in (
-      broken_reply axioms facts c.args.nothing c.in_ok-verdict.verdict (c.in_ok-verdict.ensures facts behind)
+      broken_reply axioms facts c.args.nothing c.in_ok-verdict.verdict (c.in_ok-verdict.ensures.verdict facts behind)
           c.args.query.now c.args.limit c.in-Broken.axiom c.in-Broken.is,
       refl,
     )
@@ -37,5 +37,5 @@ returns c =
     (subst (λ (e : Frozen). IsHierarchyIn e c.hier-hier.result.now) c.deref.ensures c.hier-hier.ensures)
     c.requires.known c.requires.predicates c.in_ok-facts.ensures in
     c.told.ensures axioms facts c.args.nothing c.args.query.now c.args.limit
-    (sound_reply axioms facts c.args.nothing c.in_ok-verdict.verdict (c.in_ok-verdict.ensures facts behind) c.in-Sound.is)
-    (c.certain.ensures axioms facts behind)
+    (sound_reply axioms facts c.args.nothing c.in_ok-verdict.verdict (c.in_ok-verdict.ensures.verdict facts behind) c.in-Sound.is)
+    (c.certain.ensures.tuples axioms facts behind)

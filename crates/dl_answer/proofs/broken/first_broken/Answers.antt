@@ -7,8 +7,8 @@ bounds-axioms-index c =
     found_within c.args.axioms.now c.as_slice.result.now (c.as_slice.ensures ∙ c.in_ok-normal.ensures.rows.negatives)
     c.in_ok-index.field-0 c.in-Some.index c.in-Some.is c.in_ok-index.ensures.there
 
-pub returns-in-Some : goal.returns-in-Some
-returns-in-Some c = λ known behind.
+pub returns-in-Some-clause-verdict : goal.returns-in-Some-clause-verdict
+returns-in-Some-clause-verdict c = λ known behind.
     let negatives = c.as_slice.ensures ∙ c.in_ok-normal.ensures.rows.negatives in
     found_broken c.args.axioms.now c.as_slice.result.now negatives c.in_ok-index.field-0 known c.args.nothing
     (c.in_ok-index.ensures.first c.args.axioms.now known behind) c.in-Some.index c.index-axioms-index.result c.in_ok-copy.copy
@@ -17,14 +17,14 @@ returns-in-Some c = λ known behind.
     c.in_ok-index.ensures.there)
     c.index-axioms-index.is c.in_ok-copy.ensures
 
-pub returns-then-branch : goal.returns-then-branch
-returns-then-branch c = λ known behind.
+pub returns-then-branch-clause-verdict : goal.returns-then-branch-clause-verdict
+returns-then-branch-clause-verdict c = λ known behind.
     found_last c.args.axioms.now c.as_slice.result.now (c.as_slice.ensures ∙ c.in_ok-normal.ensures.rows.negatives)
     c.in_ok-index.field-0 known c.args.nothing (c.in_ok-index.ensures.first c.args.axioms.now known behind)
-    c.in_ok-has_member.field-0 c.in_default.is c.if-branch.true (c.in_ok-has_member.ensures c.args.axioms.now known behind)
+    c.in_ok-has_member.field-0 c.in_default.is c.if-branch.true (c.in_ok-has_member.ensures.member c.args.axioms.now known behind)
 
-pub returns : goal.returns
-returns c = λ known behind.
+pub returns-clause-verdict : goal.returns-clause-verdict
+returns-clause-verdict c = λ known behind.
     found_sound c.args.axioms.now c.as_slice.result.now (c.as_slice.ensures ∙ c.in_ok-normal.ensures.rows.negatives)
     c.in_ok-index.field-0 known c.args.nothing (c.in_ok-index.ensures.first c.args.axioms.now known behind)
-    c.in_ok-has_member.field-0 c.in_default.is c.if-branch.false (c.in_ok-has_member.ensures c.args.axioms.now known behind)
+    c.in_ok-has_member.field-0 c.in_default.is c.if-branch.false (c.in_ok-has_member.ensures.member c.args.axioms.now known behind)

@@ -10,15 +10,15 @@ use Rattle.dl_answer.specs.Verdicts.{HasMember}
 use Rattle.dl_answer.proofs.BrokenLemmas.{none_named}
 use Rattle.dl_answer.proofs.broken.has_member.Goals as goal
 
-pub returns-in-Some : goal.returns-in-Some
-returns-in-Some c =
+pub returns-in-Some-clause-member : goal.returns-in-Some-clause-member
+returns-in-Some-clause-member c =
     IfOk-weaker c.is_met.result
     (λ met. (axioms : Items Axiom) (known : Items Fact) → AreBehind c.args.hier.now c.args.facts.now axioms known
     → IsTrue met ↔ IsMet axioms known (Basics (Class c.in-Some.class) (Class c.in-Some.class)))
     (λ has. (axioms : Items Axiom) (known : Items Fact) → AreBehind c.args.hier.now c.args.facts.now axioms known
     → IsTrue has ↔ HasMember axioms known c.args.nothing)
     (λ has told axioms known behind. subst (λ o. IsTrue has ↔ HasMember axioms known o) (sym c.in-Some.is)
-    (told axioms known behind)) c.is_met.ensures
+    (told axioms known behind)) c.is_met.ensures.met
 
-pub returns-in-None : goal.returns-in-None
-returns-in-None c = λ axioms known behind. none_named axioms known c.args.nothing c.in-None.is
+pub returns-in-None-clause-member : goal.returns-in-None-clause-member
+returns-in-None-clause-member c = λ axioms known behind. none_named axioms known c.args.nothing c.in-None.is

@@ -1,35 +1,31 @@
-use Rattle.std.proofs.Common.{[], sym, subst, arith}
-use Rattle.std.proofs.lemmas.List.{take_all}
-use Rattle.dl_answer.specs.Probes.{AreListsOf}
-use Rattle.dl_answer.proofs.StepLemmas.{lists_more, lists_none}
-use Rattle.dl_answer.proofs.KeptLemmas.{alike_itself, some_empty}
+use Rattle.std.proofs.Common.{ap, length, sym, subst, arith}
+use Rattle.std.proofs.lemmas.List.{length_push}
+use Rattle.dl_answer.specs.Kept.{AreFirst}
+use Rattle.dl_answer.proofs.KeptLemmas.{first_none, first_push}
 use Rattle.dl_answer.proofs.probes.lists_of.Goals as goal
 
 pub loop-probe-init : goal.loop-probe-init
-loop-probe-init c = (
-  subst (AreListsOf c.args.hier.now c.args.facts.now []) (sym c.new-lists.ensures)
-      (lists_none c.args.hier.now c.args.facts.now),
-  c.requires.kept,
-)
+loop-probe-init c = record {
+  count = ap length c.new-lists.ensures;
+  first = first_none c.args.hier.now c.args.facts.now c.args.probes.now c.new-lists.result c.new-lists.ensures;
+  kept = c.requires.kept;
+}
 
 pub loop-probe-preserved : goal.loop-probe-preserved
-loop-probe-preserved c =
-    let probe = c.probe-item.result in
-    let list = c.in_ok-pairs.ensures.list in (
-      lists_more c.args.hier.now c.args.facts.now c.args.probes.now c.loop-probe.probe-index probe c.loop-probe.lists
-          c.push.new.self c.in_ok-pairs.pairs c.loop-probe-test.true c.probe-item.is c.loop-probe.invariant.0
-          c.in_ok-push.ensures.ok list.sorted
-          (λ axioms facts behind. list.holds axioms facts behind probe (alike_itself probe)),
-      c.in_ok-pairs.ensures.kept,
-    )
+loop-probe-preserved c = record {
+  count = omega (arith, ap length c.in_ok-push.ensures.ok, length_push c.loop-probe.lists c.in_ok-pairs.pairs, c.loop-probe.invariant.count);
+  first = first_push c.args.hier.now c.args.facts.now c.args.probes.now c.loop-probe.probe-index c.probe-item.result
+      c.loop-probe.lists c.push.new.self c.in_ok-pairs.pairs c.loop-probe-test.true c.probe-item.is
+      c.loop-probe.invariant.count c.loop-probe.invariant.first c.in_ok-pairs.ensures.list c.in_ok-push.ensures.ok;
+  kept = c.in_ok-pairs.ensures.kept;
+}
 
-pub returns-then-len-eq0-clause-lists : goal.returns-then-len-eq0-clause-lists
-returns-then-len-eq0-clause-lists c =
-    some_empty c.args.hier.now c.args.facts.now c.args.probes.now c.loop-probe.probe-index c.probe-item.result
-    c.in_ok-pairs.pairs c.loop-probe-test.true c.probe-item.is (omega (arith, c.len.ensures, c.if-len-eq0.true))
-    c.in_ok-pairs.ensures.list
+pub shared_list-requires-clause-lists : goal.shared_list-requires-clause-lists
+shared_list-requires-clause-lists c =
+    subst (AreFirst c.args.hier.now c.args.facts.now c.args.probes.now) (sym c.as_slice.ensures) c.loop-probe.invariant.first
 
-pub returns-clause-lists : goal.returns-clause-lists
-returns-clause-lists c =
-    subst (λ ps. AreListsOf c.args.hier.now c.args.facts.now ps c.loop-probe.lists)
-    (take_all c.loop-probe.probe-index c.args.probes.now c.loop-probe-test.false) c.loop-probe.invariant.0
+pub returns-then-none-clause-lists : goal.returns-then-none-clause-lists
+returns-then-none-clause-lists c =
+    first_push c.args.hier.now c.args.facts.now c.args.probes.now c.loop-probe.probe-index c.probe-item.result
+    c.loop-probe.lists c.push.new.self c.in_ok-pairs.pairs c.loop-probe-test.true c.probe-item.is
+    c.loop-probe.invariant.count c.loop-probe.invariant.first c.in_ok-pairs.ensures.list c.in_ok-push.ensures.ok
