@@ -2,15 +2,19 @@
 use Rattle.std.proofs.Common.{◌≡◌, ◌≢◌, ℕ, zero, suc, ◌+◌, ◌-◌, ◌^◌, ◌<◌, ◌≤◌, inl, inr, min, List, [], ◌∷◌, ◌++◌, length, AllPairs, Contains, refl, sym, ap, subst, arith, length-append}
 use Rattle.std.proofs.lemmas.List.Elements.{Contains-append_left, Contains-append_right, Contains-append_cases}
 use Rattle.dl_terms.proofs.MemberLemmas.{Contains-first, Contains-later, Contains-cons, Contains-nil}
+use Rattle.dl_terms.proofs.OrderLemmas.{facts_linear}
 use Rattle.dl_normal.specs.Filled.{HasDistinct, filled_pairs}
 use Rattle.dl_normal.specs.Weight.{total_weight}
-use Rattle.dl_answer.specs.Replies.{max_weight}
+use Rattle.dl_hier.specs.Predicates.{max_predicates}
+use Rattle.dl_hier.proofs.SortedLemmas.{IsSetOf-no_longer}
+use Rattle.dl_epoch.specs.Known.{ArePredicatesFew, max_weight}
+use Rattle.dl_answer.specs.Facts.{HasFewFacts}
 use Rattle.dl_run.specs.Input.{Load}
 use Rattle.dl_run.specs.Limits.{HasPredicateCount, IsWithinLimits, told}
 use Rattle.dl_run.specs.Wrong.{IsLoadWrong}
-use Rattle.dl_run.specs.Wrong.IsLoadWrong.{too_heavy, too_many_predicates}
+use Rattle.dl_run.specs.Wrong.IsLoadWrong.{too_heavy, too_many_predicates, too_many_facts}
 use Rattle.dl_run.specs.declared.stop.Refusal.{Refusal}
-use Rattle.dl_run.specs.declared.stop.Refusal.TheVariants.{TooHeavy, TooManyPredicates}
+use Rattle.dl_run.specs.declared.stop.Refusal.TheVariants.{TooHeavy, TooManyPredicates, TooManyFacts}
 
 -- ---- as many different items
 
@@ -69,14 +73,34 @@ one_predicate_count load n m one two =
 pub one_load_wrong : {load : Load} {one two : Refusal} → IsLoadWrong load one → IsLoadWrong load two → one ≡ two
 one_load_wrong (too_heavy a) (too_heavy b) = refl
 one_load_wrong (too_heavy a) (too_many_predicates b c d) = absurd (omega (arith, a, b))
+one_load_wrong (too_heavy a) (too_many_facts b c d e) = absurd (omega (arith, a, b))
 one_load_wrong (too_many_predicates a c d) (too_heavy b) = absurd (omega (arith, a, b))
 one_load_wrong {load} (too_many_predicates {count = n} a c d) (too_many_predicates {count = m} b e f) =
     ap (λ k. TooManyPredicates (told k)) (one_predicate_count load n m c e)
+one_load_wrong {load} (too_many_predicates {count = n} a c d) (too_many_facts {count = m} b e f g) =
+    absurd (omega (arith, d, f, one_predicate_count load n m c e))
+one_load_wrong (too_many_facts a c d e) (too_heavy b) = absurd (omega (arith, a, b))
+one_load_wrong {load} (too_many_facts {count = n} a c d e) (too_many_predicates {count = m} b f g) =
+    absurd (omega (arith, d, g, one_predicate_count load n m c f))
+one_load_wrong (too_many_facts a c d e) (too_many_facts b f g h) = refl
 
 pub wrong_or_within : {load : Load} {refusal : Refusal} → IsLoadWrong load refusal → IsWithinLimits load → ⊥
 wrong_or_within (too_heavy a) limits = omega (arith, a, limits.weight)
 wrong_or_within {load} (too_many_predicates {count = n} a c d) limits =
     omega (arith, d, limits.few, one_predicate_count load n limits.predicates c limits.counted)
+wrong_or_within (too_many_facts a c d e) limits = omega (arith, e, limits.few_facts)
+
+-- the limits in the words of a frozen epoch, and of the facts that are counted once
+module _ (load : Load) (limits : IsWithinLimits load) where
+  pub are_predicates_few : ArePredicatesFew load.signature load.axioms
+  are_predicates_few = record {
+    fillers = limits.counted.fillers;
+    distinct = limits.counted.distinct;
+    few = omega (arith, limits.counted.is, limits.few);
+  }
+
+  pub has_few_facts : HasFewFacts load.facts
+  has_few_facts set is = omega (arith, limits.few_facts, IsSetOf-no_longer facts_linear.total set load.facts is)
 
 -- ---- what is told
 
@@ -96,9 +120,23 @@ module _ (load : Load) where
         subst (λ k. IsLoadWrong load (TooManyPredicates k)) (sym told_is)
         (too_many_predicates light_enough counted (omega (arith, told_is, over)))
 
-    pub within_limits : n ≤ 4096 → IsWithinLimits load
-    within_limits few =
-        record { weight = light_enough; predicates = count; counted = counted; few = omega (arith, told_is, few) }
+    module _ (few : n ≤ 4096) (facts : ℕ) (facts_are : facts ≡ length load.facts) where
+      few_enough : count ≤ max_predicates
+      few_enough = omega (arith, told_is, few)
+
+      pub crowded : 4194304 < facts → IsLoadWrong load (TooManyFacts facts)
+      crowded over =
+          subst (λ k. IsLoadWrong load (TooManyFacts k)) (sym facts_are)
+          (too_many_facts light_enough counted few_enough (omega (arith, facts_are, over)))
+
+      pub within_limits : facts ≤ 4194304 → IsWithinLimits load
+      within_limits fits = record {
+        weight = light_enough;
+        predicates = count;
+        counted = counted;
+        few = few_enough;
+        few_facts = omega (arith, facts_are, fits);
+      }
 
 -- the count of predicates, as it is summed up
 pub counted_told : (load : Load) (cs rs fs first n : ℕ) → cs ≡ length load.signature.classes → rs ≡ length load.signature.roles

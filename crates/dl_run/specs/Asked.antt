@@ -16,12 +16,12 @@ use Rattle.dl_run.specs.Input.{Load, IsNumberOf, AreInput}
 use Rattle.dl_run.specs.Limits.{IsWithinLimits}
 use Rattle.dl_run.specs.Signature.{IsSignatureOf}
 use Rattle.std.specs.List.{All}
+use Rattle.std.specs.List.Sorted.{IsStrictlySortedBy}
 use Rattle.dl_terms.specs.Fillers.{HasNoFiller}
 use Rattle.dl_terms.specs.Queries.{IsWellFormed}
-use Rattle.dl_hier.specs.Rows.{HasNames}
+use Rattle.dl_epoch.specs.Known.{IsSignature, IsAxiomIn}
 use Rattle.dl_answer.specs.Facts.{HasPredicates}
 use Rattle.dl_answer.specs.Replies as answer
-use Rattle.dl_answer.specs.Replies.{normal_form}
 use Rattle.dl_answer.specs.declared.answer.Answer.{Answer}
 use Rattle.dl_answer.specs.declared.fault.AskFault.{AskFault}
 use Rattle.dl_run.specs.Wrong.{IsLoadWrong, IsFirstWrong}
@@ -36,11 +36,13 @@ load_of asked = record {
   nothing = asked.nothing;
 }
 
--- what is asked is as its readers make it: no axiom has a filler, the signature has all names, and the query is well
--- formed
+-- what is asked is as its readers make it: the axioms ascend and have no filler, the signature is one and has all
+-- names, and the query is well formed
 pub record IsMade (asked : Asked) : Type 0 where
+  pub ascending : IsStrictlySortedBy axiom_cmp asked.axioms
   pub no_fillers : All HasNoFiller asked.axioms
-  pub has_names : HasNames asked.signature (normal_form asked.axioms)
+  pub known : All (IsAxiomIn asked.signature) asked.axioms
+  pub signature : IsSignature asked.signature
   pub has_predicates : HasPredicates asked.signature asked.facts
   pub well_formed : IsWellFormed asked.query
 

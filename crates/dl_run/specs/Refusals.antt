@@ -5,7 +5,7 @@ use Rattle.dl_owl.specs.Causes.{construct_words}
 use Rattle.dl_run.specs.declared.stop.InputFile.{InputFile}
 use Rattle.dl_run.specs.declared.stop.InputFile.TheVariants as file
 use Rattle.dl_run.specs.declared.stop.Refusal.{Refusal}
-use Rattle.dl_run.specs.declared.stop.Refusal.TheVariants.{TooLong, OntologySyntax, TooDeep, PrefixUnknown, NotQl, LeftOut, OntologyReserved, NoTriple, BlankNode, DataReserved, QuerySyntax, QueryReserved, Unsafe, TooLarge, TooManyNames, TooHeavy, TooManyPredicates, TooMany}
+use Rattle.dl_run.specs.declared.stop.Refusal.TheVariants.{TooLong, OntologySyntax, TooDeep, PrefixUnknown, NotQl, LeftOut, OntologyReserved, NoTriple, BlankNode, DataReserved, QuerySyntax, QueryReserved, Unsafe, TooLarge, TooManyNames, TooHeavy, TooManyPredicates, TooManyFacts, TooMany}
 use Rattle.dl_run.specs.Texts.{line}
 
 abbrev pub file_word : InputFile → List ℕ
@@ -38,6 +38,7 @@ refusal_words (TooLarge atoms existential head) =
 refusal_words TooManyNames = codes "more than 4000000 names"
 refusal_words (TooHeavy weight) = codes "axiom weight " ++ (decimal weight ++ codes " over 65536")
 refusal_words (TooManyPredicates count) = decimal count ++ codes " predicates over 4096"
+refusal_words (TooManyFacts count) = decimal count ++ codes " facts over 4194304"
 refusal_words (TooMany limit) = codes "more than " ++ (decimal limit ++ codes " answers")
 
 -- the line that says so

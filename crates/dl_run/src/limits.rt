@@ -15,8 +15,12 @@ const MAX_WEIGHT: u64 = 65536;
 /// The most classes, object properties and fillers together that a load may have.
 const MAX_PREDICATES: u64 = 4096;
 
-/// Tests the limits of a load: the weight of the axioms, and the count of the predicates. Nothing is made before the
-/// weight is tested.
+/// The most different facts that a load may have.
+const MAX_FACTS: u64 = 4_194_304;
+
+/// Tests the limits of a load: the weight of the axioms, the count of the predicates, and that of the facts, in this
+/// order. Nothing is made before the weight is tested. The facts are a set already, so that their count is at hand
+/// before an answer is sought.
 pub(crate) fn judge(alloc: Global, asked: &Asked) -> Result<(), Stop>
     ensures { IsJudged asked.now result }
 {
@@ -27,6 +31,10 @@ pub(crate) fn judge(alloc: Global, asked: &Asked) -> Result<(), Stop>
     let count = predicates_of(alloc, asked)?;
     if count > MAX_PREDICATES {
         return Err(Stop::Refused(Refusal::TooManyPredicates { count }));
+    }
+    let facts = asked.facts.len() as u64;
+    if facts > MAX_FACTS {
+        return Err(Stop::Refused(Refusal::TooManyFacts { count: facts }));
     }
     Ok(())
 }

@@ -46,6 +46,7 @@ pub(crate) fn words_of(refusal: Refusal) -> Words
         Refusal::TooManyNames => plain("more than 4000000 names", ""),
         Refusal::TooHeavy { weight } => counted("axiom weight ", weight, " over 65536"),
         Refusal::TooManyPredicates { count } => counted("", count, " predicates over 4096"),
+        Refusal::TooManyFacts { count } => counted("", count, " facts over 4194304"),
         Refusal::TooMany { limit } => counted("more than ", limit, " answers"),
     }
 }

@@ -13,7 +13,6 @@ use crate::stop::{Refusal, Stop};
 use crate::told::Told;
 use dl_answer::{Answer, AskFault, ask_facts};
 use dl_names::Names;
-use dl_normal::fillers_are_of_parts;
 use dl_owl::axiom_text;
 use dl_terms::{Axiom, NoMemory};
 use std::alloc::Global;
@@ -24,7 +23,6 @@ pub(crate) fn answers_for(alloc: Global, asked: Asked, limit: u64) -> Result<Ans
     requires made { IsMade asked }
     ensures { RepliesTo (load_of asked) asked.query limit result }
 {
-    fillers_are_of_parts();
     let answer = ask_facts(
         alloc,
         asked.axioms.as_slice(),

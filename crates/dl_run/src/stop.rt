@@ -89,6 +89,10 @@ pub(crate) enum Refusal {
     TooManyPredicates {
         count: u64,
     },
+    /// There are more different facts than the limit.
+    TooManyFacts {
+        count: u64,
+    },
     /// There are more answers than the limit.
     TooMany {
         limit: u64,

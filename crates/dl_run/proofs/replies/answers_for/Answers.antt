@@ -1,17 +1,15 @@
-use Rattle.std.proofs.Common.{arith}
 use Rattle.std.proofs.lemmas.Result.{err_from_is_err_and}
 use Rattle.dl_run.specs.Asked.{load_of}
+use Rattle.dl_run.proofs.LimitLemmas.{are_predicates_few, has_few_facts}
 use Rattle.dl_run.proofs.NamedLemmas.{told_named}
-use Rattle.dl_run.proofs.SignatureLemmas.{are_few}
 use Rattle.dl_run.proofs.ToldLemmas.{stop_told}
 use Rattle.dl_run.proofs.replies.answers_for.Goals as goal
 
 pub ask_facts-answer-requires-clause-few : goal.ask_facts-answer-requires-clause-few
-ask_facts-answer-requires-clause-few c =
-    let limits = c.requires.limits in
-    rw c.as_slice.ensures
-    (are_few c.args.asked.axioms c.requires.made.no_fillers c.fillers_are_of_parts.ensures limits.counted.fillers limits.counted.distinct c.args.asked.signature
-    (omega (arith, limits.counted.is, limits.few)))
+ask_facts-answer-requires-clause-few c = rw c.as_slice.ensures (are_predicates_few (load_of c.args.asked) c.requires.limits)
+
+pub ask_facts-answer-requires-clause-few_facts : goal.ask_facts-answer-requires-clause-few_facts
+ask_facts-answer-requires-clause-few_facts c = rw c.as_slice-2.ensures (has_few_facts (load_of c.args.asked) c.requires.limits)
 
 pub invariant_of-result : goal.invariant_of-result
 invariant_of-result c =
