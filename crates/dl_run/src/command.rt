@@ -22,6 +22,7 @@ use crate::texts::{NO_MEMORY, NOT_BUILT, USAGE};
 use crate::words::{AnswerWords, Form, form_of};
 use dl_io::{Failed, FileFault, GATHERED, GatheringSink, Library, Sink, read_whole, write_all};
 use std::alloc::Global;
+use std::mem::forget;
 
 /// The answers of `answer` for its three files, which are read whole, in the order of the words. All
 /// that printing them takes is made before: `gathered` gets its room here, and stays empty.
@@ -179,7 +180,11 @@ pub fn answer_command<L: Library, S: Sink>(
     };
     let mut gathered = Vec::new(alloc);
     let output = answers_of(alloc, files, &words, &mut gathered);
-    write_output(sink, &mut gathered, &output)
+    let status = write_output(sink, &mut gathered, &output);
+    // The process ends behind the command, and its memory goes back as a whole: letting a million names go one by one
+    // takes longer than printing them.
+    forget(output);
+    status
 }
 
 /// The program: the words after its name, the files and the output. It answers `Usage` exactly where
