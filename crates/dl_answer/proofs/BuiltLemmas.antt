@@ -20,7 +20,7 @@ use Rattle.dl_epoch.specs.Frozen.{Frozen, IsHierarchyIn}
 use Rattle.dl_epoch.proofs.KnownLemmas.{has_names}
 use Rattle.dl_answer.specs.Replies.{normal_form}
 use Rattle.dl_answer.specs.Probes.{AreBehind, IsIndexOf}
-use Rattle.dl_answer.specs.declared.index.FactsByPredicate.{FactsByPredicate}
+use Rattle.dl_answer.specs.declared.index.FactRows.{FactRows}
 
 -- axioms of a weight are no more than it
 pub length_by_weight : (axioms : List Axiom) → length axioms ≤ total_weight axioms
@@ -51,7 +51,7 @@ known_predicates signature normal p facts of known = All-weaker (HasPredicate si
     each (Link r a b) h = (of.properties.members r).1 h
 
 -- what an epoch of axioms and a signature tells, beside an index of the facts
-pub epoch_behind : (e : Frozen) (h : Hierarchy) (index : FactsByPredicate) (axioms : List Axiom) (signature : Signature)
+pub epoch_behind : (e : Frozen) (h : Hierarchy) (index : FactRows) (axioms : List Axiom) (signature : Signature)
     (facts : List Fact) → e.axioms ≡ axioms → e.signature ≡ signature → IsHierarchyIn e h
     → All (IsAxiomIn signature) axioms → HasPredicates signature facts → IsIndexOf facts index
     → AreBehind h index axioms facts

@@ -32,7 +32,7 @@ use Rattle.dl_rewrite.specs.OverNames.{HasOverNames, SomeHasOverNames}
 use Rattle.dl_rewrite.specs.Shape.{IsShapedFor}
 use Rattle.dl_answer.specs.OverNames.{HoldsAlike}
 use Rattle.dl_answer.specs.Probes.{AreBelowProbe, AreBehind, facts_in}
-use Rattle.dl_answer.specs.declared.index.FactsByPredicate.{FactsByPredicate}
+use Rattle.dl_answer.specs.declared.index.FactRows.{FactRows}
 use Rattle.dl_answer.proofs.FactLemmas.{pairs_exist}
 use Rattle.dl_answer.proofs.TupleLemmas.{Decided, picked, some_decided, set_exists, exactly_exists, exactly_none, union_exists}
 use Rattle.dl_answer.proofs.StepLemmas.{holds_alike, exactly_over, exactly_same}
@@ -143,7 +143,7 @@ module _ (axioms : List Axiom) (h : Hierarchy) (of : IsHierarchyOf h axioms) whe
 
 -- ---- lists of pairs, and of tuples
 
-module _ (axioms : List Axiom) (facts : List Fact) (h : Hierarchy) (index : FactsByPredicate)
+module _ (axioms : List Axiom) (facts : List Fact) (h : Hierarchy) (index : FactRows)
     (behind : AreBehind h index axioms facts) where
   list_exists : (probe : Probe) → (pairs : List (ℕ × ℕ)) × HoldsAlike axioms facts probe pairs
   list_exists probe =

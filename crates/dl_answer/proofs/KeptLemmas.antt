@@ -40,7 +40,7 @@ use Rattle.dl_answer.specs.Probes.{AreBelowProbe, AreBehind, AskAlike, IsListOf,
 use Rattle.dl_answer.specs.Replies.{GivesTuples}
 use Rattle.dl_answer.specs.Kept.{IsKept, IsSlotKept, AreFirst}
 use Rattle.dl_answer.specs.declared.slots.Kept.{Kept}
-use Rattle.dl_answer.specs.declared.index.FactsByPredicate.{FactsByPredicate}
+use Rattle.dl_answer.specs.declared.index.FactRows.{FactRows}
 
 -- ---- probes that ask the same
 
@@ -66,7 +66,7 @@ below_alike axioms p (Joined role t u) (AnyOf basics w) below same is = absurd s
 below_alike axioms p (Joined role t u) (Joined other w x) below same is =
     subst (λ r. AreBelowProbe axioms p (Joined r w x) below) same is
 
-module _ (h : Hierarchy) (index : FactsByPredicate) where
+module _ (h : Hierarchy) (index : FactRows) where
   -- the list of the one is a list of the other
   pub list_alike : (one other : Probe) (pairs : List (ℕ × ℕ)) → AskAlike one other → IsListOf h index one pairs
       → IsListOf h index other pairs
@@ -86,7 +86,7 @@ module _ (h : Hierarchy) (index : FactsByPredicate) where
       none (Joined role t u) c = Contains-nil _ c
 
 -- a disjunct of which a probe has no pair has no tuple
-pub empty_gives : (h : Hierarchy) (index : FactsByPredicate) (d : Disjunct) (limit : ℕ) (table : Table)
+pub empty_gives : (h : Hierarchy) (index : FactRows) (d : Disjunct) (limit : ℕ) (table : Table)
     → Any (λ p. IsListOf h index p []) d.probes → table.tuples ≡ [] → (axioms : List Axiom) (facts : List Fact)
     → AreBehind h index axioms facts → GivesTuples (HasOverNames axioms facts d) limit (Ok table)
 empty_gives h index d limit table some none axioms facts behind = (
@@ -102,7 +102,7 @@ empty_gives h index d limit table some none axioms facts behind = (
 any_probe : Probe
 any_probe = Joined 0 (Name 0) (Name 0)
 
-module _ (h : Hierarchy) (index : FactsByPredicate) (probes : List Probe) where
+module _ (h : Hierarchy) (index : FactRows) (probes : List Probe) where
   pub first_none : (lists : List (List (ℕ × ℕ))) → lists ≡ [] → AreFirst h index probes lists
   first_none lists none k p lt = absurd (omega (arith, lt, ap length none))
 
@@ -170,7 +170,7 @@ module _ (h : Hierarchy) (index : FactsByPredicate) (probes : List Probe) where
         )
 
 -- a probe that asks the same as one of them has the list of that
-pub earlier_list : (h : Hierarchy) (index : FactsByPredicate) (probes : List Probe) (lists : List (List (ℕ × ℕ))) (k : ℕ)
+pub earlier_list : (h : Hierarchy) (index : FactRows) (probes : List Probe) (lists : List (List (ℕ × ℕ))) (k : ℕ)
     (one probe : Probe) (list pairs : List (ℕ × ℕ)) → k < length lists → one ≡ get_or probes k one
     → list ≡ get_or lists k list → AskAlike one probe → pairs ≡ list → AreFirst h index probes lists
     → IsListOf h index probe pairs
@@ -193,7 +193,7 @@ last_empty old new pairs grown none =
 
 -- ---- slots
 
-module _ (h : Hierarchy) (index : FactsByPredicate) where
+module _ (h : Hierarchy) (index : FactRows) where
   pub none_kept : (slots : List (Option Kept)) → All (λ slot. slot ≡ None) slots → All (IsSlotKept h index) slots
   none_kept slots none =
       All-weaker (λ slot. slot ≡ None) (IsSlotKept h index) (λ slot is. subst (IsSlotKept h index) (sym is) tt) slots none

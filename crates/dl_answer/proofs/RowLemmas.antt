@@ -34,7 +34,7 @@ use Rattle.dl_scan.proofs.FactLemmas.{said, said_of, named_of}
 use Rattle.dl_answer.specs.Facts.{HasPredicate}
 use Rattle.dl_answer.specs.Rows.{IsRowOf, AreRowsOf, StandFor}
 use Rattle.dl_answer.specs.Probes.{IsIndexOf, ArePairsBelow}
-use Rattle.dl_answer.specs.declared.index.FactsByPredicate.{FactsByPredicate}
+use Rattle.dl_answer.specs.declared.index.FactRows.{FactRows}
 
 -- ---- the row of a fact
 
@@ -210,7 +210,7 @@ rows_stand e facts none rows new shard empty same are is =
     (sym (is ∙ ap (λ l. ordered row_cmp (left_of [] l ++ new)) empty ∙ ap (ordered row_cmp) same))
     (stand_for e facts rows are)
 
-pub index_of : (e d : Frozen) (facts : List Fact) (index : FactsByPredicate) → d ≡ e
+pub index_of : (e d : Frozen) (facts : List Fact) (index : FactRows) → d ≡ e
     → map epoch_in index.epochs ≡ from_version 1 e ∷ [] → StandFor d facts index.shard → IsIndexOf facts index
 index_of e d facts index same one stand = record {
   same = λ f.
@@ -219,7 +219,7 @@ index_of e d facts index same one stand = record {
 }
 
 -- what a scan gave that began with no pair
-pub scanned_pairs : (index : FactsByPredicate) (below : Below) (start end : Scan) (pairs : List (ℕ × ℕ))
+pub scanned_pairs : (index : FactRows) (below : Below) (start end : Scan) (pairs : List (ℕ × ℕ))
     → start ≡ scan below 1 [] → Takes (map epoch_in index.epochs) index.shard start end
     → IsSetOf pair_cmp pairs end.pairs → ArePairsBelow index below pairs
 scanned_pairs index below start end pairs is takes set =

@@ -25,7 +25,7 @@ use Rattle.dl_rewrite.specs.OverNames.{ProbeHolds, HasOverNames}
 use Rattle.dl_answer.specs.OverNames.{HoldsAlike, AreBelow}
 use Rattle.dl_answer.specs.Probes.{AreBelowProbe, AreBehind, AreListsOf, ArePairsBelow, facts_in}
 use Rattle.dl_answer.specs.Replies.{AreOver, GivesTuples}
-use Rattle.dl_answer.specs.declared.index.FactsByPredicate.{FactsByPredicate}
+use Rattle.dl_answer.specs.declared.index.FactRows.{FactRows}
 use Rattle.dl_answer.proofs.BelowLemmas.{holds_by_pair, pair_of_held, joins_by_pair, pair_of_joined}
 use Rattle.dl_answer.proofs.TupleLemmas.{exactly_exists, over_exactly}
 
@@ -37,7 +37,7 @@ pairs_sorted pairs up = λ k d low h.
     let less = sorted_at pair_cmp pairs k (k + 1) d up (omega arith) h in
     ap is_lt (pair_linear.total.antisymm (get_or pairs (k + 1) d) (get_or pairs k d) ∙ ap ordering_reverse less)
 
-module _ (axioms : List Axiom) (facts : List Fact) (h : Hierarchy) (index : FactsByPredicate)
+module _ (axioms : List Axiom) (facts : List Fact) (h : Hierarchy) (index : FactRows)
     (behind : AreBehind h index axioms facts) (below : Below) (pairs : List (ℕ × ℕ))
     (are : ArePairsBelow index below pairs) where
   pair_below : (p : ℕ × ℕ) → Contains pairs p → IsPairBelow facts below p
@@ -115,7 +115,7 @@ over_more limit P Q within more all = record {
 }
 
 -- what a join gives is what a disjunct has
-pub gives_tuples : (h : Hierarchy) (index : FactsByPredicate) (d : Disjunct) (lists : List (List (ℕ × ℕ)))
+pub gives_tuples : (h : Hierarchy) (index : FactRows) (d : Disjunct) (lists : List (List (ℕ × ℕ)))
     (limit : ℕ) (result : Result Table JoinFault)
     → AreListsOf h index d.probes lists → AreBelow d.vars d.probes → IsSafe d
     → IfOk result (λ t. AreExactly (IsTuple d lists) t.tuples) → IfOk result (λ t. length t.tuples ≤ limit)

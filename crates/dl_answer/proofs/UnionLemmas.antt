@@ -26,7 +26,7 @@ use Rattle.dl_rewrite.specs.Shape.{IsShapedFor}
 use Rattle.dl_answer.specs.Facts.{HasPredicate}
 use Rattle.dl_answer.specs.Probes.{AreBehind}
 use Rattle.dl_answer.specs.Replies.{GivesTuples}
-use Rattle.dl_answer.specs.declared.index.FactsByPredicate.{FactsByPredicate}
+use Rattle.dl_answer.specs.declared.index.FactRows.{FactRows}
 use Rattle.dl_answer.proofs.StepLemmas.{exactly_same, over_more}
 use Rattle.dl_answer.proofs.TupleLemmas.{exactly_none}
 use Rattle.dl_answer.proofs.DecidedLemmas.{some_exist}
@@ -49,7 +49,7 @@ gives_same P Q same limit (Err TooMany) g =
 gives_same P Q same limit (Err NoMemory) g = tt
 
 -- what a rewriting gives is what is certain
-pub certain_given : (h : Hierarchy) (index : FactsByPredicate) (q : Query) (ds : List Disjunct) (limit : ℕ)
+pub certain_given : (h : Hierarchy) (index : FactRows) (q : Query) (ds : List Disjunct) (limit : ℕ)
     (result : Result Table JoinFault)
     → ((axioms : List Axiom) → IsHierarchyOf h axioms → HasRolesOf axioms (roles h.predicates) → (facts : List Fact)
     → LinksAreKnown facts (roles h.predicates) → (t : List ℕ)
@@ -122,7 +122,7 @@ module _ (ds front back : List Disjunct) (whole : ds ≡ front ++ back) where
         ],
   )
 
-module _ (h : Hierarchy) (index : FactsByPredicate) (q : Query) (limit : ℕ) (ds : List Disjunct)
+module _ (h : Hierarchy) (index : FactRows) (q : Query) (limit : ℕ) (ds : List Disjunct)
     (shaped : All (IsShapedFor q) ds) (axioms : List Axiom) (facts : List Fact) (behind : AreBehind h index axioms facts)
   where
     -- where a part has too many tuples, all have

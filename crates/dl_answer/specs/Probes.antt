@@ -20,7 +20,7 @@ use Rattle.dl_epoch.specs.Covering.{epoch_in}
 use Rattle.dl_scan.specs.Pairs.{IsPairBelow, visible_facts}
 use Rattle.dl_answer.specs.Facts.{HasPredicate}
 use Rattle.dl_answer.specs.OverNames.{HoldsAlike}
-use Rattle.dl_answer.specs.declared.index.FactsByPredicate.{FactsByPredicate}
+use Rattle.dl_answer.specs.declared.index.FactRows.{FactRows}
 
 -- the predicates below the basic concepts or the role of a probe
 abbrev pub AreBelowProbe : List Axiom → Predicates → Probe → Below → Type 0
@@ -33,20 +33,20 @@ AreBelowProbe axioms p (Joined role t u) below =
     × AreThose p.properties (λ r. RoleBelow axioms (inverse_of (named r)) (named role)) below.backward
 
 -- the facts that the rows of an index stand for at version 1
-abbrev pub facts_in : FactsByPredicate → List Fact
+abbrev pub facts_in : FactRows → List Fact
 facts_in index = visible_facts (map epoch_in index.epochs) 1 index.shard
 
 -- an index has exactly some facts
-pub record IsIndexOf (facts : List Fact) (index : FactsByPredicate) : Type 0 where
+pub record IsIndexOf (facts : List Fact) (index : FactRows) : Type 0 where
   pub same : (f : Fact) → Contains (facts_in index) f ↔ Contains facts f
 
 -- exactly the pairs of the facts of an index below what is asked, ascending
-pub record ArePairsBelow (index : FactsByPredicate) (below : Below) (pairs : List (ℕ × ℕ)) : Type 0 where
+pub record ArePairsBelow (index : FactRows) (below : Below) (pairs : List (ℕ × ℕ)) : Type 0 where
   pub ascending : IsStrictlySortedBy pair_cmp pairs
   pub exact : (p : ℕ × ℕ) → Contains pairs p ↔ IsPairBelow (facts_in index) below p
 
 -- a hierarchy is that of the axioms, with their roles, and has the predicates of the facts, which an index has
-pub record AreBehind (h : Hierarchy) (index : FactsByPredicate) (axioms : List Axiom) (facts : List Fact) : Type 0 where
+pub record AreBehind (h : Hierarchy) (index : FactRows) (axioms : List Axiom) (facts : List Fact) : Type 0 where
   pub hierarchy : IsHierarchyOf h axioms
   pub has_roles : HasRolesOf axioms (roles h.predicates)
   pub known : All (HasPredicate h.predicates.classes h.predicates.properties) facts
@@ -67,13 +67,13 @@ AskAlike (AnyOf basics t) other = AsksOneOf basics other
 AskAlike (Joined role t u) other = AsksRole role other
 
 -- a sorted list over which each probe that asks the same holds exactly where it holds over axioms and facts
-pub record IsListOf (h : Hierarchy) (index : FactsByPredicate) (probe : Probe) (pairs : List (ℕ × ℕ)) : Type 0 where
+pub record IsListOf (h : Hierarchy) (index : FactRows) (probe : Probe) (pairs : List (ℕ × ℕ)) : Type 0 where
   pub sorted : IsSorted pair_cmp pairs
   pub holds : (axioms : List Axiom) (facts : List Fact) → AreBehind h index axioms facts
       → (q : Probe) → AskAlike probe q → HoldsAlike axioms facts q pairs
 
 -- one sorted list for each probe, over which it holds exactly where it holds over axioms and facts
-pub record AreListsOf (h : Hierarchy) (index : FactsByPredicate) (probes : List Probe) (lists : List (List (ℕ × ℕ)))
+pub record AreListsOf (h : Hierarchy) (index : FactRows) (probes : List Probe) (lists : List (List (ℕ × ℕ)))
     : Type 0 where
   pub count : length lists ≡ length probes
   pub sorted : AreSorted lists

@@ -19,7 +19,7 @@ ghost use Rattle.dl_answer.specs.Verdicts.{fault_of};
 
 use crate::broken::{Verdict, first_broken};
 use crate::certain::certain;
-use crate::facts::by_predicate;
+use crate::facts::fact_rows;
 use crate::slots::KeptLists;
 use crate::{Answer, AskFault};
 use dl_epoch::Epoch;
@@ -58,7 +58,7 @@ pub fn ask_facts(
 {
     let epoch = epoch_of(alloc, axioms, signature)?;
     let mut kept = KeptLists::new(alloc, facts.len())?;
-    let facts = by_predicate(alloc, Arc::try_clone(&epoch)?, facts)?;
+    let facts = fact_rows(alloc, Arc::try_clone(&epoch)?, facts)?;
     let hier = epoch.hier();
     let verdict = first_broken(alloc, hier, &facts, axioms, &mut kept, nothing)?;
     match verdict {

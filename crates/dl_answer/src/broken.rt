@@ -9,7 +9,7 @@ ghost use Rattle.dl_answer.specs.Kept.{AreKept};
 ghost use Rattle.dl_answer.specs.Verdicts.{FindsMet, HasMember, Finds};
 
 use crate::certain::certain;
-use crate::index::FactsByPredicate;
+use crate::index::FactRows;
 use crate::slots::KeptLists;
 use dl_deny::{copy_of, query_of};
 use dl_hier::Hier;
@@ -31,7 +31,7 @@ pub(crate) enum Verdict {
 pub(crate) fn first_broken(
     alloc: Global,
     hier: &Hier,
-    facts: &FactsByPredicate,
+    facts: &FactRows,
     axioms: &[Axiom],
     kept: &mut KeptLists,
     nothing: Option<u32>,
@@ -57,7 +57,7 @@ pub(crate) fn first_broken(
 fn first_met(
     alloc: Global,
     hier: &Hier,
-    facts: &FactsByPredicate,
+    facts: &FactRows,
     kept: &mut KeptLists,
     negatives: &[(u32, Negative)],
 ) -> Result<Option<u32>, NoMemory>
@@ -80,7 +80,7 @@ fn first_met(
 fn has_member(
     alloc: Global,
     hier: &Hier,
-    facts: &FactsByPredicate,
+    facts: &FactRows,
     kept: &mut KeptLists,
     nothing: Option<u32>,
 ) -> Result<bool, NoMemory>
@@ -102,7 +102,7 @@ fn has_member(
 fn is_met(
     alloc: Global,
     hier: &Hier,
-    facts: &FactsByPredicate,
+    facts: &FactRows,
     kept: &mut KeptLists,
     negative: Negative,
 ) -> Result<bool, NoMemory>

@@ -12,7 +12,7 @@ ghost use Rattle.dl_answer.specs.Probes.{AreBehind};
 ghost use Rattle.dl_answer.specs.Kept.{AreKept};
 ghost use Rattle.dl_answer.specs.Replies.{GivesTuples};
 
-use crate::index::FactsByPredicate;
+use crate::index::FactRows;
 use crate::probes::tuples_of;
 use crate::slots::KeptLists;
 use dl_hier::Hier;
@@ -25,7 +25,7 @@ use std::alloc::Global;
 pub(crate) fn certain(
     alloc: Global,
     hier: &Hier,
-    facts: &FactsByPredicate,
+    facts: &FactRows,
     query: &Query,
     kept: &mut KeptLists,
     limit: u64,
@@ -46,7 +46,7 @@ pub(crate) fn certain(
 fn united(
     alloc: Global,
     hier: &Hier,
-    facts: &FactsByPredicate,
+    facts: &FactRows,
     query: &Query,
     disjuncts: &[Disjunct],
     kept: &mut KeptLists,
@@ -75,7 +75,7 @@ fn united(
 fn of_first(
     alloc: Global,
     hier: &Hier,
-    facts: &FactsByPredicate,
+    facts: &FactRows,
     query: &Query,
     disjuncts: &[Disjunct],
     kept: &mut KeptLists,

@@ -12,7 +12,7 @@ ghost use Rattle.dl_answer.specs.Facts.{HasPredicate, HasPredicates, HasFewFacts
 ghost use Rattle.dl_answer.specs.Rows.{IsRowOf, AreRowsOf, StandFor};
 ghost use Rattle.dl_answer.specs.Probes.{IsIndexOf};
 
-use crate::index::FactsByPredicate;
+use crate::index::FactRows;
 use dl_epoch::{Entry, Epoch, Epochs};
 use dl_row::{Kind, OPEN, PlainShard, Row};
 use dl_terms::{Fact, List, NoMemory, facts_are_ordered, set_of};
@@ -20,18 +20,18 @@ use std::alloc::{AllocError, Global};
 use std::sync::Arc;
 
 /// The facts as rows of an epoch, each once.
-pub(crate) fn by_predicate(
+pub(crate) fn fact_rows(
     alloc: Global,
     epoch: Arc<Epoch, Global>,
     facts: &[Fact],
-) -> Result<FactsByPredicate, NoMemory>
+) -> Result<FactRows, NoMemory>
     requires known { HasPredicates (arc_value epoch).signature facts.now }
     requires few { HasFewFacts facts.now }
     ensures { IfOk result (IsIndexOf facts.now) }
 {
     let shard = shard_of(alloc, &*epoch, facts)?;
     let epochs = epochs_of(alloc, epoch, shard.len())?;
-    Ok(FactsByPredicate { epochs, shard })
+    Ok(FactRows { epochs, shard })
 }
 
 /// An epoch as the only one, which covers every version from 1 on.

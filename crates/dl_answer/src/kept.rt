@@ -5,7 +5,7 @@ ghost use Rattle.std.specs.declared.option.Option.{Option as Maybe};
 ghost use Rattle.dl_hier.specs.Hierarchy.{Hierarchy};
 ghost use Rattle.dl_answer.specs.Probes.{AsksOneOf, AsksRole, AskAlike, IsListOf};
 ghost use Rattle.dl_answer.specs.Kept.{IsKept, IsSlotKept, AreKept, AreFirst};
-ghost use Rattle.dl_answer.specs.declared.index.FactsByPredicate.{FactsByPredicate};
+ghost use Rattle.dl_answer.specs.declared.index.FactRows.{FactRows};
 
 use crate::slots::{Kept, KeptLists};
 use dl_terms::{Base, Basic, List, Pair, Probe, Role};
@@ -28,7 +28,7 @@ const ROOM: usize = 1_048_576;
 impl KeptLists {
     /// No list, and the room for a number of facts.
     pub(crate) fn new(alloc: Global, facts: usize) -> Result<KeptLists, AllocError>
-        ensures { IfOk result (λ kept. (h : Hierarchy) (index : FactsByPredicate) → AreKept h index kept) }
+        ensures { IfOk result (λ kept. (h : Hierarchy) (index : FactRows) → AreKept h index kept) }
     {
         let most = facts.saturating_mul(PAIRS_A_FACT).saturating_add(ROOM);
         let slots = empty_slots(alloc)?;
@@ -41,8 +41,8 @@ impl KeptLists {
 
     /// Moves the list out that is kept of a probe like this one. Another list in its slot is let go.
     pub(crate) fn take(&mut self, probe: &Probe) -> Option<List<Pair>>
-        ensures kept { (h : Hierarchy) (index : FactsByPredicate) → AreKept h index self.old → AreKept h index self.new }
-        ensures list { (h : Hierarchy) (index : FactsByPredicate) → AreKept h index self.old
+        ensures kept { (h : Hierarchy) (index : FactRows) → AreKept h index self.old → AreKept h index self.new }
+        ensures list { (h : Hierarchy) (index : FactRows) → AreKept h index self.old
             → IfSome result (IsListOf h index probe.now) }
     {
         match self.empty(slot_of(probe)) {
@@ -59,7 +59,7 @@ impl KeptLists {
         probe: &Probe,
         pairs: List<Pair>,
     ) -> Result<(), AllocError>
-        ensures { (h : Hierarchy) (index : FactsByPredicate) → AreKept h index self.old
+        ensures { (h : Hierarchy) (index : FactRows) → AreKept h index self.old
             → IsListOf h index probe.now pairs → AreKept h index self.new }
     {
         let slot = slot_of(probe);
@@ -77,7 +77,7 @@ impl KeptLists {
 
     /// Lets all lists go where there is too little room for a weight.
     fn make_room(&mut self, alloc: Global, weight: usize) -> Result<(), AllocError>
-        ensures { (h : Hierarchy) (index : FactsByPredicate) → AreKept h index self.old → AreKept h index self.new }
+        ensures { (h : Hierarchy) (index : FactRows) → AreKept h index self.old → AreKept h index self.new }
     {
         if weight <= self.room {
             return Ok(());
@@ -90,8 +90,8 @@ impl KeptLists {
     /// Moves out what is in a slot.
     fn empty(&mut self, slot: usize) -> Option<Kept>
         requires { slot < 8192 }
-        ensures kept { (h : Hierarchy) (index : FactsByPredicate) → AreKept h index self.old → AreKept h index self.new }
-        ensures one { (h : Hierarchy) (index : FactsByPredicate) → AreKept h index self.old
+        ensures kept { (h : Hierarchy) (index : FactRows) → AreKept h index self.old → AreKept h index self.new }
+        ensures one { (h : Hierarchy) (index : FactRows) → AreKept h index self.old
             → IfSome result (IsKept h index) }
     {
         let kept = mem::replace(&mut self.slots[slot], None);
@@ -114,7 +114,7 @@ fn empty_slots(alloc: Global) -> Result<Vec<Option<Kept>>, AllocError>
 
 /// The pairs that are kept, where a probe asks for them.
 fn pairs_for(kept: Kept, probe: &Probe) -> Option<List<Pair>>
-    ensures { (h : Hierarchy) (index : FactsByPredicate) → IsKept h index kept
+    ensures { (h : Hierarchy) (index : FactRows) → IsKept h index kept
         → IfSome result (IsListOf h index probe.now) }
 {
     if ask_alike(&kept.probe, probe) {
@@ -132,7 +132,7 @@ pub(crate) fn keep_all(
     kept: &mut KeptLists,
 ) -> Result<(), AllocError>
     requires { length lists ≤ length probes.now }
-    ensures { (h : Hierarchy) (index : FactsByPredicate) → AreKept h index kept.old
+    ensures { (h : Hierarchy) (index : FactRows) → AreKept h index kept.old
         → AreFirst h index probes.now lists → AreKept h index kept.new }
 {
     let mut rest = lists.into_vec();
@@ -149,7 +149,7 @@ pub(crate) fn earlier<'a>(
     probe: &Probe,
 ) -> Option<&'a [Pair]>
     requires { length lists.now ≤ length probes.now }
-    ensures { (h : Hierarchy) (index : FactsByPredicate) → AreFirst h index probes.now lists.now
+    ensures { (h : Hierarchy) (index : FactRows) → AreFirst h index probes.now lists.now
         → IfSome result (λ pairs. IsListOf h index probe.now pairs.now) }
 {
     for (k, pairs) in lists.iter().enumerate() {

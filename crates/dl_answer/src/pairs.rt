@@ -2,7 +2,7 @@
 ghost use Rattle.std.specs.Prelude.{◌≡◌, ◌<◌, IfOk};
 ghost use Rattle.dl_answer.specs.Probes.{ArePairsBelow};
 
-use crate::index::FactsByPredicate;
+use crate::index::FactRows;
 use dl_hier::Below;
 use dl_scan::AtomScan;
 use dl_terms::{List, NoMemory, Pair, Steps};
@@ -13,7 +13,7 @@ use std::sync::ledger::{Blank, Ledger};
 /// The pairs of the facts below what is asked, ascending, each once.
 pub(crate) fn pairs_below(
     alloc: Global,
-    facts: &FactsByPredicate,
+    facts: &FactRows,
     below: Below,
 ) -> Result<List<Pair>, NoMemory>
     ensures { IfOk result (ArePairsBelow facts.now below) }
@@ -24,7 +24,7 @@ pub(crate) fn pairs_below(
 /// These pairs, found by a scan over a ledger that nothing has counted in yet.
 fn scanned<L: Ledger>(
     alloc: Global,
-    facts: &FactsByPredicate,
+    facts: &FactRows,
     below: Below,
     blank: Blank,
 ) -> Result<List<Pair>, NoMemory>

@@ -11,10 +11,10 @@ ghost use Rattle.dl_rewrite.specs.OverNames.{HasOverNames};
 ghost use Rattle.dl_answer.specs.OverNames.{AreBelow};
 ghost use Rattle.dl_answer.specs.Probes.{AreBelowProbe, AreBehind, IsListOf};
 ghost use Rattle.dl_answer.specs.Kept.{AreKept, AreFirst};
-ghost use Rattle.dl_answer.specs.declared.index.FactsByPredicate.{FactsByPredicate};
+ghost use Rattle.dl_answer.specs.declared.index.FactRows.{FactRows};
 ghost use Rattle.dl_answer.specs.Replies.{GivesTuples};
 
-use crate::index::FactsByPredicate;
+use crate::index::FactRows;
 use crate::kept::{copy_of, earlier, keep_all};
 use crate::pairs::pairs_below;
 use crate::slots::KeptLists;
@@ -28,7 +28,7 @@ use std::alloc::Global;
 pub(crate) fn tuples_of(
     alloc: Global,
     hier: &Hier,
-    facts: &FactsByPredicate,
+    facts: &FactRows,
     disjunct: &Disjunct,
     kept: &mut KeptLists,
     limit: u64,
@@ -67,7 +67,7 @@ fn tuples_over(
     ensures ascending { IfOk result (λ tuples. AscendStrictly tuples.tuples) }
     ensures width { IfOk result (λ tuples. tuples.width ≡ length disjunct.now.head) }
     ensures within { IfOk result (λ tuples. length tuples.tuples ≤ limit) }
-    ensures tuples { (h : Hierarchy) (index : FactsByPredicate) → AreFirst h index disjunct.now.probes lists.now →
+    ensures tuples { (h : Hierarchy) (index : FactRows) → AreFirst h index disjunct.now.probes lists.now →
         (axioms : Items Axiom) (known : Items Fact) → AreBehind h index axioms known →
         GivesTuples (HasOverNames axioms known disjunct.now) limit result }
 {
@@ -99,7 +99,7 @@ fn is_empty(pairs: &List<Pair>) -> bool
 fn lists_of(
     alloc: Global,
     hier: &Hier,
-    facts: &FactsByPredicate,
+    facts: &FactRows,
     probes: &[Probe],
     kept: &mut KeptLists,
 ) -> Result<List<List<Pair>>, NoMemory>
@@ -127,7 +127,7 @@ fn lists_of(
 fn shared_list(
     alloc: Global,
     hier: &Hier,
-    facts: &FactsByPredicate,
+    facts: &FactRows,
     probe: &Probe,
     before: &[Probe],
     lists: &[List<Pair>],
@@ -152,7 +152,7 @@ fn shared_list(
 pub(crate) fn list_of(
     alloc: Global,
     hier: &Hier,
-    facts: &FactsByPredicate,
+    facts: &FactRows,
     probe: &Probe,
 ) -> Result<List<Pair>, NoMemory>
     ensures { IfOk result (IsListOf hier.now facts.now probe.now) }

@@ -6,8 +6,8 @@ use Rattle.dl_answer.proofs.BrokenLemmas.{broken_reply, sound_reply}
 use Rattle.dl_answer.proofs.BuiltLemmas.{few_axioms, epoch_behind}
 use Rattle.dl_answer.proofs.asked.ask_facts.Goals as goal
 
-pub by_predicate-requires-clause-known : goal.by_predicate-requires-clause-known
-by_predicate-requires-clause-known c =
+pub fact_rows-requires-clause-known : goal.fact_rows-requires-clause-known
+fact_rows-requires-clause-known c =
     subst (λ s. HasPredicates s c.args.facts.now)
     (sym (ap (λ (e : Frozen). e.signature) c.in_ok-try_clone.ensures ∙ c.in_ok-epoch.ensures.signature))
     c.requires.predicates

@@ -1,6 +1,6 @@
 use Rattle.std.specs.Arc.{arc_value}
 use Rattle.dl_answer.proofs.RowLemmas.{index_of}
-use Rattle.dl_answer.proofs.facts.by_predicate.Goals as goal
+use Rattle.dl_answer.proofs.facts.fact_rows.Goals as goal
 
 pub returns : goal.returns
 returns c =
