@@ -2,6 +2,7 @@
 #![tactic(auto)]
 
 mod answer;
+mod disjuncts;
 mod hierarchy;
 mod join;
 mod lex;
@@ -25,6 +26,7 @@ fn main(rt: HostRuntime) -> io::Result<ExitCode> {
         Some(word) if word.as_str() == "triples" => triples::run(&rt, &words)?,
         Some(word) if word.as_str() == "hierarchy" => hierarchy::run(&rt, &words)?,
         Some(word) if word.as_str() == "trees" => trees::run(&rt, &words)?,
+        Some(word) if word.as_str() == "disjuncts" => disjuncts::run(&rt)?,
         Some(word) if word.as_str() == "ontology" => ontology::run(&rt, &words)?,
         Some(word) if word.as_str() == "join" => join::run(&rt, &words)?,
         _ => false,
@@ -38,6 +40,7 @@ fn main(rt: HostRuntime) -> io::Result<ExitCode> {
     eprintln!(rt; "bench_base {}", triples::WORDS)?;
     eprintln!(rt; "bench_base {}", hierarchy::WORDS)?;
     eprintln!(rt; "bench_base {}", trees::WORDS)?;
+    eprintln!(rt; "bench_base {}", disjuncts::WORDS)?;
     eprintln!(rt; "bench_base {}", ontology::WORDS)?;
     eprintln!(rt; "bench_base {}", join::WORDS)?;
     Ok(ExitCode::FAILURE)
