@@ -147,7 +147,7 @@ fn write_text<S: Sink>(sink: &mut S, status: Status, text: &str) -> Status
 /// in the order of the words, before any is read for faults. `limit` is the most answers that are
 /// written. `Usage` never comes, and `NoMemory` may come at any time. Where the library doesn't tell
 /// its files, nothing is said of the texts of `Done` and `Refused`. `WriteFault` overrides every other
-/// status.
+/// status. The memory of its answers goes back with the process: a program that calls it again and again grows.
 pub fn answer_command<L: Library, S: Sink>(
     alloc: Global,
     files: &mut L,
