@@ -13,13 +13,14 @@ use std::alloc::{AllocError, Global};
 use std::cmp::Ordering;
 use std::mem;
 
-/// How many slots there are for lists, and how far apart those of different kinds of what is asked begin.
+/// How many slots there are for lists.
 const SLOTS: usize = 8192;
 
+/// How far apart the slots of classes, of roles, of inverse roles and of pairs of a role begin.
 const QUARTER: usize = 2048;
 
-/// How many pairs may be kept for each fact. No list has more than two for each, so lists are let go for want of room only
-/// after as many pairs were listed as any of them has.
+/// How many pairs may be kept for each fact. No list has more than two for each, so lists are let go for want of room
+/// only after as many pairs were listed as any of them has.
 const PAIRS_A_FACT: usize = 4;
 
 /// How many pairs and basic concepts more may be kept, so that few facts don't make the lists go.
@@ -89,7 +90,7 @@ impl KeptLists {
 
     /// Moves out what is in a slot.
     fn empty(&mut self, slot: usize) -> Option<Kept>
-        requires { slot < 8192 }
+        requires { slot < SLOTS }
         ensures kept { (h : Hierarchy) (index : FactRows) → AreKept h index self.old → AreKept h index self.new }
         ensures one { (h : Hierarchy) (index : FactRows) → AreKept h index self.old
             → IfSome result (IsKept h index) }
@@ -102,7 +103,7 @@ impl KeptLists {
 
 /// Slots without lists.
 fn empty_slots(alloc: Global) -> Result<Vec<Option<Kept>>, AllocError>
-    ensures count { IfOk result (λ slots. vec_len slots ≡ 8192) }
+    ensures count { IfOk result (λ slots. vec_len slots ≡ SLOTS) }
     ensures none { IfOk result (λ slots. All (λ slot. slot ≡ None) slots.items) }
 {
     let mut slots = Vec::new(alloc);
@@ -178,7 +179,7 @@ fn weight_of(probe: &Probe, pairs: &[Pair]) -> usize {
 
 /// The slot of the list of what a probe asks. Classes whose numbers follow one another have different ones.
 fn slot_of(probe: &Probe) -> usize
-    ensures { result < 8192 }
+    ensures { result < SLOTS }
 {
     let number = match probe {
         Probe::AnyOf { basics, .. } => number_of(basics.as_slice()),
