@@ -25,7 +25,7 @@ const TABLE: &[(&[u32], &[u32], &[(u32, u32)])] = &[
 ];
 
 /// Whether these are the intervals.
-fn are(intervals: &Intervals, wanted: &[(u32, u32)]) -> bool {
+pub(crate) fn are(intervals: &Intervals, wanted: &[(u32, u32)]) -> bool {
     if intervals.len() as usize != wanted.len() {
         return false;
     }

@@ -7,6 +7,8 @@ mod axioms;
 #[cfg(test)]
 mod deny;
 #[cfg(test)]
+mod epoch;
+#[cfg(test)]
 mod faults;
 #[cfg(test)]
 mod hier;
@@ -45,6 +47,8 @@ mod row;
 mod rows;
 #[cfg(test)]
 mod run;
+#[cfg(test)]
+mod scan;
 mod spelling;
 mod tables;
 #[cfg(test)]

@@ -40,6 +40,9 @@ macro_rules! role_row {
     };
 }
 
+pub(crate) use class_row;
+pub(crate) use role_row;
+
 /// First and last version of a row, a version, and whether it is visible there.
 const SEEN: [(u32, u32, u32, bool); 9] = [
     (3, 5, 2, false),
@@ -99,7 +102,7 @@ fn has(shard: &PlainShard, rows: &[Row]) -> bool {
 }
 
 /// The shard without some rows and with others; none where a place is wrong or there are many rows.
-fn changed(
+pub(crate) fn changed(
     alloc: Global,
     shard: &PlainShard,
     without: &[u64],
