@@ -207,7 +207,7 @@ fn pair_of(size: Size, list: u64, i: u32) -> Pair {
 }
 
 /// A number that looks like drawn, of another one (SplitMix64: Steele, Lea, Flood, 2014).
-fn mixed(number: u64) -> u64 {
+pub(crate) fn mixed(number: u64) -> u64 {
     let mut z = number.wrapping_mul(0x9E37_79B9_7F4A_7C15);
     z = (z ^ (z >> 30)).wrapping_mul(0xBF58_476D_1CE4_E5B9);
     z = (z ^ (z >> 27)).wrapping_mul(0x94D0_49BB_1331_11EB);

@@ -3,11 +3,13 @@
 
 mod answer;
 mod disjuncts;
+mod epoch;
 mod hierarchy;
 mod join;
 mod lex;
 mod ontology;
 mod reach;
+mod rows;
 mod trees;
 mod triples;
 
@@ -29,6 +31,8 @@ fn main(rt: HostRuntime) -> io::Result<ExitCode> {
         Some(word) if word.as_str() == "disjuncts" => disjuncts::run(&rt)?,
         Some(word) if word.as_str() == "ontology" => ontology::run(&rt, &words)?,
         Some(word) if word.as_str() == "join" => join::run(&rt, &words)?,
+        Some(word) if word.as_str() == "rows" => rows::run(&rt, &words)?,
+        Some(word) if word.as_str() == "epoch" => epoch::run(&rt, &words)?,
         _ => false,
     };
     if done {
@@ -43,5 +47,7 @@ fn main(rt: HostRuntime) -> io::Result<ExitCode> {
     eprintln!(rt; "bench_base {}", disjuncts::WORDS)?;
     eprintln!(rt; "bench_base {}", ontology::WORDS)?;
     eprintln!(rt; "bench_base {}", join::WORDS)?;
+    eprintln!(rt; "bench_base {}", rows::WORDS)?;
+    eprintln!(rt; "bench_base {}", epoch::WORDS)?;
     Ok(ExitCode::FAILURE)
 }
