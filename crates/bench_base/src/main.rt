@@ -1,7 +1,6 @@
 // Runs a base crate on an input that it makes, and prints counts. `bench/` times it from outside.
 #![tactic(auto)]
 
-mod answer;
 mod disjuncts;
 mod epoch;
 mod hierarchy;
@@ -16,6 +15,20 @@ mod triples;
 use std::process::ExitCode;
 use std::{env, io};
 
+/// What may be asked for.
+const WORDS: &[&str] = &[
+    reach::WORDS,
+    lex::WORDS,
+    triples::WORDS,
+    hierarchy::WORDS,
+    trees::WORDS,
+    disjuncts::WORDS,
+    ontology::WORDS,
+    join::WORDS,
+    rows::WORDS,
+    epoch::WORDS,
+];
+
 fn main(rt: HostRuntime) -> io::Result<ExitCode> {
     let mut words = Vec::new(rt.alloc());
     for word in env::args(&rt)?.skip(1) {
@@ -24,7 +37,6 @@ fn main(rt: HostRuntime) -> io::Result<ExitCode> {
     let done = match words.first() {
         Some(word) if word.as_str() == "reach" => reach::run(&rt, &words)?,
         Some(word) if word.as_str() == "lex" => lex::run(&rt, &words)?,
-        Some(word) if word.as_str() == "answer" => answer::run(&rt, &words),
         Some(word) if word.as_str() == "triples" => triples::run(&rt, &words)?,
         Some(word) if word.as_str() == "hierarchy" => hierarchy::run(&rt, &words)?,
         Some(word) if word.as_str() == "trees" => trees::run(&rt, &words)?,
@@ -38,16 +50,8 @@ fn main(rt: HostRuntime) -> io::Result<ExitCode> {
     if done {
         return Ok(ExitCode::SUCCESS);
     }
-    eprintln!(rt; "bench_base {}", reach::WORDS)?;
-    eprintln!(rt; "bench_base {}", lex::WORDS)?;
-    eprintln!(rt; "bench_base {}", answer::WORDS)?;
-    eprintln!(rt; "bench_base {}", triples::WORDS)?;
-    eprintln!(rt; "bench_base {}", hierarchy::WORDS)?;
-    eprintln!(rt; "bench_base {}", trees::WORDS)?;
-    eprintln!(rt; "bench_base {}", disjuncts::WORDS)?;
-    eprintln!(rt; "bench_base {}", ontology::WORDS)?;
-    eprintln!(rt; "bench_base {}", join::WORDS)?;
-    eprintln!(rt; "bench_base {}", rows::WORDS)?;
-    eprintln!(rt; "bench_base {}", epoch::WORDS)?;
+    for line in WORDS {
+        eprintln!(rt; "bench_base {}", *line)?;
+    }
     Ok(ExitCode::FAILURE)
 }
