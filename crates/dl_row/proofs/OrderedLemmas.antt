@@ -170,6 +170,10 @@ length-put {A} cmp x (y ∷ ys) = by (is_gt (cmp x y)) (length-put cmp x ys)
     by true ih = ap suc ih
     by false ih = refl
 
+pub no_items : {A : Type 0} (xs : List A) → length xs ≡ 0 → xs ≡ []
+no_items [] e = refl
+no_items (x ∷ xs) e = absurd (omega (arith, e))
+
 pub length-ordered : {A : Type 0} (cmp : A → A → Ordering) (xs : List A) → length (ordered cmp xs) ≡ length xs
 length-ordered cmp [] = refl
 length-ordered cmp (x ∷ xs) = length-put cmp x (ordered cmp xs) ∙ ap suc (length-ordered cmp xs)

@@ -83,6 +83,9 @@ impl PlainShard {
     {
         let mut added = Vec::from_slice(alloc, new)?;
         added.sort_unstable();
+        if self.len() == 0 {
+            return Ok(PlainShard { rows: added });
+        }
         let rows = merged(alloc, &self.rows, without, &added)?;
         Ok(PlainShard { rows })
     }

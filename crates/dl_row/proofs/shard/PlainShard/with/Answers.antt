@@ -3,7 +3,7 @@ use Rattle.std.specs.List.Sorted.{IsPermutation}
 use Rattle.dl_row.specs.Lists.{Ascends, ordered, left_of}
 use Rattle.dl_row.specs.Laws.{row_total}
 use Rattle.dl_row.specs.Rows.{row_cmp}
-use Rattle.dl_row.proofs.OrderedLemmas.{sorted-ascends, ordered-ascends, ordered_together, length-ordered}
+use Rattle.dl_row.proofs.OrderedLemmas.{no_items, sorted-ascends, sorted_is_ordered, ordered-ascends, ordered_together, length-ordered}
 use Rattle.dl_row.proofs.RowLemmas.{rows_linear}
 use Rattle.dl_row.proofs.shard.PlainShard.with.Goals as goal
 
@@ -13,6 +13,21 @@ merged-requires-clause-new c =
 
 pub invariant_of-result : goal.invariant_of-result
 invariant_of-result c =
+    let up = sorted-ascends row_total c.sort_unstable.new.self.items c.sort_unstable.ensures.sorted in
+    let sorted = c.sort_unstable.ensures.len in
+    let copied = ap length c.in_ok-added.ensures.items in
+    let fits = c.requires.fits in
+    (up, omega (arith, sorted, copied, fits))
+
+pub returns-then-len-eq0 : goal.returns-then-len-eq0
+returns-then-len-eq0 c =
+    let moved = subst (λ xs. IsPermutation xs c.sort_unstable.new.self.items) c.in_ok-added.ensures.items c.sort_unstable.ensures.permutation in
+    let none = no_items c.args.self.now (sym c.len.ensures.count ∙ c.if-len-eq0.true) in
+    sorted_is_ordered rows_linear c.args.new.now c.sort_unstable.new.self.items moved c.sort_unstable.ensures.sorted
+    ∙ sym (ap (λ xs. ordered row_cmp (left_of c.args.without.now xs ++ c.args.new.now)) none)
+
+pub invariant_of-result-2 : goal.invariant_of-result-2
+invariant_of-result-2 c =
     let rows = c.deref.result.now in
     let added = c.deref-2.result.now in
     let e = c.in_ok-rows.ensures in
