@@ -5,7 +5,7 @@ use Rattle.std.specs.Ordering.{is_lt, is_gt}
 use Rattle.std.proofs.lemmas.Bool.{and_parts, and_right}
 use Rattle.std.proofs.lemmas.Bool.Decides.{nat_tests}
 use Rattle.std.proofs.lemmas.List.{map-append, take-append-drop, drop_more, take_more, get_or-take, get_or-drop, get_or_default, length-take, length-drop}
-use Rattle.std.proofs.lemmas.List.Elements.{filter-append, filter_more}
+use Rattle.std.proofs.lemmas.List.Elements.{filter-append}
 use Rattle.std.proofs.lemmas.List.Folds.{list_any-append, Any-from_list_any}
 use Rattle.dl_terms.proofs.MemberLemmas.{Contains-one, Contains-first}
 use Rattle.dl_intervals.specs.Intervals.{IsIntervalList}
