@@ -1,11 +1,11 @@
 -- One epoch after another: each row is read by the one epoch that has its id.
-use Rattle.std.proofs.Common.{◌≡◌, ◌≢◌, ℕ, ◌+◌, ◌<◌, ◌≤◌, ◌↔◌, ◌⊎◌, inl, inr, Bool, true, false, cond, ◌==◌, List, [], ◌∷◌, ◌++◌, map, take, length, get_or, Option, Some, None, Result, Ok, Err, OnOk, refl, sym, ap, subst, ◌∙◌, arith}
+use Rattle.std.proofs.Common.{◌≡◌, ◌≢◌, ℕ, ◌+◌, ◌<◌, ◌≤◌, ◌↔◌, ◌⊎◌, inl, inr, Bool, true, false, cond, ◌==◌, List, [], ◌∷◌, ◌++◌, map, filter, append_assoc, append-nil, take, length, get_or, Option, Some, None, Result, Ok, Err, OnOk, refl, sym, ap, subst, ◌∙◌, arith}
 use Rattle.std.specs.List.{All, Contains, find}
 use Rattle.std.specs.Option.{option_or}
 use Rattle.std.specs.Arc.{arc_value}
 use Rattle.std.proofs.lemmas.Bool.{eqb-true, ne_eqb}
 use Rattle.std.proofs.lemmas.List.{map-append, take_more, take_all, get_or-map, get_or-take, length-map, length-take}
-use Rattle.std.proofs.lemmas.List.Elements.{All-head, All-tail}
+use Rattle.std.proofs.lemmas.List.Elements.{All-head, All-tail, filter-append}
 use Rattle.std.proofs.lemmas.List.Folds.{find-append}
 use Rattle.dl_terms.specs.declared.axiom.Fact.{Fact}
 use Rattle.dl_hier.specs.declared.below.Below.{Below}
@@ -17,11 +17,13 @@ use Rattle.dl_epoch.specs.Translating.{AreNumbersOf}
 use Rattle.dl_epoch.specs.declared.entry.Entry.{Entry}
 use Rattle.dl_epoch.specs.declared.numbers.Ranges.{Ranges}
 use Rattle.dl_scan.specs.Pairs.{IsPairBelow, member, plain, turned, visible_facts}
-use Rattle.dl_scan.specs.Scans.{Scan, scan, Gains, Takes}
+use Rattle.dl_scan.specs.Scans.{Scan, scan, Gains, Takes, TakesSifted}
+use Rattle.dl_scan.specs.Sieves.{passes, passes_first}
 use Rattle.dl_scan.specs.Reading.{all_read}
 use Rattle.dl_scan.proofs.ReadLemmas.{epoch_gains}
 use Rattle.dl_scan.proofs.FactLemmas.{said, said_of, no_facts}
 use Rattle.dl_scan.proofs.BelowLemmas.{pair-either}
+use Rattle.dl_scan.proofs.SieveLemmas.{Gains-sifted}
 
 find-none : {A : Type 0} (p : A → Bool) (xs : List A) → All (λ x. p x ≡ false) xs → find p xs ≡ None
 find-none p [] all = refl
@@ -166,6 +168,21 @@ module _ (entries : List Entry) (version : ℕ) (rows : List Row) (below : Below
       → Gains old new (IsPairBelow (visible_facts (epochs_of entries) version rows) below)
   Gains-all i old new past gains = subst (λ es. Gains old new (IsPairBelow (visible_facts (epochs_of es) version rows) below)) (take_all i entries past) gains
 
+  -- of those pairs the ones whose first name passes a sieve
+  pub record SiftsTo (marks : List Bool) (i : ℕ) (old now : List (ℕ × ℕ)) : Type 0 where
+    pub whole : List (ℕ × ℕ)
+    pub gains : GainsTo i [] whole
+    pub is : now ≡ old ++ filter (passes_first marks) whole
+
+  pub Sifts-none : (marks : List Bool) (old : List (ℕ × ℕ)) → SiftsTo marks 0 old old
+  Sifts-none marks old = record { whole = []; gains = Gains-none []; is = sym (append-nil old) }
+
+  pub Sifts-all : (marks : List Bool) (i : ℕ) (old new : List (ℕ × ℕ)) → length entries ≤ i → SiftsTo marks i old new
+      → Gains old new (λ p. IsPairBelow (visible_facts (epochs_of entries) version rows) below p × (passes_first marks p ≡ true))
+  Sifts-all marks i old new past sifts =
+      Gains-sifted (passes_first marks) old new sifts.whole (IsPairBelow (visible_facts (epochs_of entries) version rows) below)
+      (Gains-all i [] sifts.whole past sifts.gains) sifts.is
+
 -- ---- for answers
 
 -- one entry more, whose epoch is read by its own intervals
@@ -183,11 +200,36 @@ module _ (entries : List Entry) (version : ℕ) (rows : List Row) (below : Below
       (subst (λ (f : Frozen). AreNumbersOf f.roles below.backward ranges.backward) (sym is) of_backward)
       now new (subst (λ n. new ≡ now ++ all_read n ranges version rows) same added))
 
+  pub Sifts-step : (id : ℕ) → id ≡ (arc_value (get_or entries i entry).epoch).id → (marks : List Bool) (old now new : List (ℕ × ℕ))
+      → SiftsTo entries version rows below marks i old now → new ≡ now ++ filter (passes_first marks) (all_read id ranges version rows)
+      → SiftsTo entries version rows below marks (i + 1) old new
+  Sifts-step id same marks old now new before added =
+      let read = all_read id ranges version rows in
+      let pass = passes_first marks in record {
+        whole = before.whole ++ read;
+        gains = Gains-step id same [] before.whole (before.whole ++ read) before.gains refl;
+        is = added ∙ (ap (λ l. l ++ filter pass read) before.is ∙ (append_assoc old (filter pass before.whole) (filter pass read)
+            ∙ ap (λ l. old ++ l) (sym (filter-append pass before.whole read))));
+      }
+
 -- a scan whose pairs were gained
-pub took : {T E : Type 0} (r : Result T E) (entries epochs : List Kept) (old now : Scan) (rows : List Row) (pairs : List (ℕ × ℕ)) → entries ≡ epochs → old ≡ now
-    → OnOk r (Gains old.pairs pairs (IsPairBelow (visible_facts (map epoch_in entries) old.version rows) old.below))
-    → OnOk r (Takes (map epoch_in epochs) rows now (scan old.below old.version pairs))
-took (Ok x) entries epochs old now rows pairs is same gains =
-    subst (λ ks. Takes (map epoch_in ks) rows now (scan old.below old.version pairs)) is
-    (subst (λ s. Takes (map epoch_in entries) rows s (scan old.below old.version pairs)) same (record { below = refl; version = refl; pairs = gains }))
-took (Err e) entries epochs old now rows pairs is same gains = tt
+pub took_sifted : {T E : Type 0} (r : Result T E) (entries epochs : List Kept) (old now : Scan) (rows : List Row) (marks : List Bool) (pairs : List (ℕ × ℕ)) → entries ≡ epochs → old ≡ now
+    → OnOk r (Gains old.pairs pairs (λ p. IsPairBelow (visible_facts (map epoch_in entries) old.version rows) old.below p × (passes_first marks p ≡ true)))
+    → OnOk r (TakesSifted (map epoch_in epochs) rows marks now (scan old.below old.version pairs))
+took_sifted (Ok x) entries epochs old now rows marks pairs is same gains =
+    subst (λ ks. TakesSifted (map epoch_in ks) rows marks now (scan old.below old.version pairs)) is
+    (subst (λ s. TakesSifted (map epoch_in entries) rows marks s (scan old.below old.version pairs)) same (record { below = refl; version = refl; pairs = gains }))
+took_sifted (Err e) entries epochs old now rows marks pairs is same gains = tt
+
+-- where every name passes, nothing is left out
+pub took_all : {T E : Type 0} (r : Result T E) (epochs : List Epoch) (rows : List Row) (marks : List Bool) (old new : Scan)
+    → ((name : ℕ) → passes marks name ≡ true) → OnOk r (TakesSifted epochs rows marks old new) → OnOk r (Takes epochs rows old new)
+took_all (Ok x) epochs rows marks old new every takes = record {
+  below = takes.below;
+  version = takes.version;
+  pairs = λ p. (
+    λ c. elim ((takes.pairs p).0 c) [ inl before ↦ inl before | inr here ↦ inr here.0 ],
+    λ h. (takes.pairs p).1 (elim h [ inl before ↦ inl before | inr here ↦ inr (here, every p.0) ]),
+  );
+}
+took_all (Err e) epochs rows marks old new every takes = tt

@@ -1,4 +1,5 @@
 pub mod FactLemmas
 pub mod BelowLemmas
+pub mod SieveLemmas
 pub mod ReadLemmas
 pub mod EpochLemmas

@@ -1,3 +1,4 @@
 pub mod Pairs
 pub mod Scans
 pub mod Reading
+pub mod Sieves

@@ -1,10 +1,11 @@
 -- A scan as clauses see it, and what it gains.
-use Rattle.std.specs.Prelude.{◌≡◌, ◌↔◌, ◌⊎◌, ℕ, List}
+use Rattle.std.specs.Prelude.{◌≡◌, ◌↔◌, ◌⊎◌, ℕ, Bool, true, List}
 use Rattle.std.specs.List.{Contains}
 use Rattle.dl_hier.specs.declared.below.Below.{Below}
 use Rattle.dl_row.specs.Rows.{Epoch}
 use Rattle.dl_row.specs.declared.row.Row.{Row}
 use Rattle.dl_scan.specs.Pairs.{IsPairBelow, visible_facts}
+use Rattle.dl_scan.specs.Sieves.{passes_first}
 
 -- what is asked, the version that is looked at, and the pairs so far
 pub record Scan : Type 0 where
@@ -24,3 +25,10 @@ pub record Takes (epochs : List Epoch) (rows : List Row) (old new : Scan) : Type
   pub below : new.below ≡ old.below
   pub version : new.version ≡ old.version
   pub pairs : Gains old.pairs new.pairs (IsPairBelow (visible_facts epochs old.version rows) old.below)
+
+-- a scan gained exactly those of these pairs whose first name passes a sieve
+pub record TakesSifted (epochs : List Epoch) (rows : List Row) (marks : List Bool) (old new : Scan) : Type 0 where
+  pub below : new.below ≡ old.below
+  pub version : new.version ≡ old.version
+  pub pairs : Gains old.pairs new.pairs
+      (λ p. IsPairBelow (visible_facts epochs old.version rows) old.below p × (passes_first marks p ≡ true))

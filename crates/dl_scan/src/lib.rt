@@ -4,6 +4,8 @@
 mod laws;
 mod reading;
 mod scan;
+mod sieve;
 
 pub use laws::pairs_of_shards;
 pub use scan::AtomScan;
+pub use sieve::Sieve;

@@ -1,7 +1,9 @@
 // The rows of one epoch, read by its own intervals.
-ghost use Rattle.std.specs.Prelude.{◌≡◌, ◌++◌, map, OnOk};
+ghost use Rattle.std.specs.Prelude.{◌≡◌, ◌++◌, ◌∷◌, [], map, filter, OnOk};
 ghost use Rattle.dl_scan.specs.Reading.{kind_of, pair_of, pairs_read, all_read};
+ghost use Rattle.dl_scan.specs.Sieves.{passes_first};
 
+use crate::sieve::Sieve;
 use dl_epoch::Ranges;
 use dl_intervals::Intervals;
 use dl_row::{Kind, PlainShard};
@@ -39,17 +41,18 @@ fn pair_of(how: Reading, ends: Pair) -> Pair
     }
 }
 
-/// Adds the pairs of the visible rows of an epoch that are read by these intervals.
+/// Adds the pairs of the visible rows of an epoch that are read by these intervals, where their first names pass.
 pub fn push_ranges<L: Ledger>(
     alloc: Global,
     shard: &PlainShard,
     epoch: u32,
     ranges: &Ranges,
     version: u32,
+    sieve: &Sieve,
     pairs: &mut List<Pair>,
     steps: &mut Steps<L>,
 ) -> Result<(), NoMemory>
-    ensures { OnOk result (pairs.new ≡ pairs.old ++ all_read epoch ranges.now version shard.now) }
+    ensures { OnOk result (pairs.new ≡ pairs.old ++ filter (passes_first sieve.now) (all_read epoch ranges.now version shard.now)) }
 {
     push_read(
         alloc,
@@ -58,6 +61,7 @@ pub fn push_ranges<L: Ledger>(
         epoch,
         &ranges.classes,
         version,
+        sieve,
         pairs,
         steps,
     )?;
@@ -68,6 +72,7 @@ pub fn push_ranges<L: Ledger>(
         epoch,
         &ranges.forward,
         version,
+        sieve,
         pairs,
         steps,
     )?;
@@ -78,12 +83,13 @@ pub fn push_ranges<L: Ledger>(
         epoch,
         &ranges.backward,
         version,
+        sieve,
         pairs,
         steps,
     )
 }
 
-/// Adds the pairs of the visible rows of an epoch whose numbers stand in some intervals.
+/// Adds the pairs of the visible rows of an epoch whose numbers stand in some intervals, where their first names pass.
 fn push_read<L: Ledger>(
     alloc: Global,
     shard: &PlainShard,
@@ -91,22 +97,39 @@ fn push_read<L: Ledger>(
     epoch: u32,
     ranges: &Intervals,
     version: u32,
+    sieve: &Sieve,
     pairs: &mut List<Pair>,
     steps: &mut Steps<L>,
 ) -> Result<(), NoMemory>
-    ensures { OnOk result (pairs.new ≡ pairs.old ++ pairs_read how epoch ranges.now version shard.now) }
+    ensures { OnOk result (pairs.new ≡ pairs.old ++ filter (passes_first sieve.now) (pairs_read how epoch ranges.now version shard.now)) }
 {
     let mut found = List::new(alloc);
     shard.scan(epoch, kind_of(how), ranges, version, &mut found, steps)?;
-    push_ends(how, found.as_slice(), pairs)
+    push_ends(how, found.as_slice(), sieve, pairs)
 }
 
-/// Adds the pairs that the ends of rows are read as.
-fn push_ends(how: Reading, ends: &[Pair], pairs: &mut List<Pair>) -> Result<(), NoMemory>
-    ensures { OnOk result (pairs.new ≡ pairs.old ++ map (pair_of how) ends.now) }
+/// Adds the pairs that the ends of rows are read as, where their first names pass.
+fn push_ends(
+    how: Reading,
+    ends: &[Pair],
+    sieve: &Sieve,
+    pairs: &mut List<Pair>,
+) -> Result<(), NoMemory>
+    ensures { OnOk result
+        (pairs.new ≡ pairs.old ++ filter (passes_first sieve.now) (map (pair_of how) ends.now)) }
 {
     for end in ends {
-        pairs.push(pair_of(how, *end))?;
+        push_passing(pair_of(how, *end), sieve, pairs)?;
+    }
+    Ok(())
+}
+
+/// Adds a pair where its first name passes.
+fn push_passing(pair: Pair, sieve: &Sieve, pairs: &mut List<Pair>) -> Result<(), NoMemory>
+    ensures { OnOk result (pairs.new ≡ pairs.old ++ filter (passes_first sieve.now) (pair ∷ [])) }
+{
+    if sieve.passes(pair.0) {
+        return pairs.push(pair);
     }
     Ok(())
 }

@@ -1,11 +1,13 @@
 // A scan of shards for what is asked at a version.
-ghost use Rattle.std.specs.Prelude.{◌≡◌, [], map, IfOk, OnOk};
+ghost use Rattle.std.specs.Prelude.{◌≡◌, [], true, map, IfOk, OnOk};
 ghost use Rattle.dl_terms.specs.Sets.{IsSetOf};
 ghost use Rattle.dl_epoch.specs.Covering.{kept, epoch_in, AreEntries};
 ghost use Rattle.dl_scan.specs.Pairs.{IsPairBelow, visible_facts, pair_cmp};
-ghost use Rattle.dl_scan.specs.Scans.{scan, Gains, Takes};
+ghost use Rattle.dl_scan.specs.Scans.{scan, Gains, Takes, TakesSifted};
+ghost use Rattle.dl_scan.specs.Sieves.{passes_first};
 
 use crate::reading::push_ranges;
+use crate::sieve::Sieve;
 use dl_epoch::{Entry, Epochs};
 use dl_hier::Below;
 use dl_row::PlainShard;
@@ -58,6 +60,22 @@ impl AtomScan {
     ) -> Result<(), NoMemory>
         ensures { OnOk result (Takes (map epoch_in epochs.now) shard.now self.old self.new) }
     {
+        let sieve = Sieve::all(alloc);
+        self.take_sifted(alloc, epochs, shard, &sieve, steps)
+    }
+
+    /// Adds those of these pairs whose first name passes a sieve. So a large part of a shard is gone through without
+    /// being kept. It fails only for want of memory; then the scan is only to be dropped.
+    pub fn take_sifted<L: Ledger>(
+        &mut self,
+        alloc: Global,
+        epochs: &Epochs,
+        shard: &PlainShard,
+        sieve: &Sieve,
+        steps: &mut Steps<L>,
+    ) -> Result<(), NoMemory>
+        ensures { OnOk result (TakesSifted (map epoch_in epochs.now) shard.now sieve.now self.old self.new) }
+    {
         let entries = epochs.entries();
         push_epochs(
             alloc,
@@ -65,6 +83,7 @@ impl AtomScan {
             shard,
             &self.below,
             self.version,
+            sieve,
             &mut self.pairs,
             steps,
         )
@@ -78,19 +97,22 @@ impl AtomScan {
     }
 }
 
-/// Adds the pairs of the visible rows that epochs have below what is asked: the rows of each by its own intervals.
+/// Adds the pairs of the visible rows that epochs have below what is asked, where their first names pass: the rows of
+/// each epoch by its own intervals.
 fn push_epochs<L: Ledger>(
     alloc: Global,
     entries: &[Entry],
     shard: &PlainShard,
     below: &Below,
     version: u32,
+    sieve: &Sieve,
     pairs: &mut List<Pair>,
     steps: &mut Steps<L>,
 ) -> Result<(), NoMemory>
     requires { AreEntries (map kept entries.now) }
     ensures { OnOk result (Gains pairs.old pairs.new
-        (IsPairBelow (visible_facts (map epoch_in (map kept entries.now)) version shard.now) below.now)) }
+        (λ p. IsPairBelow (visible_facts (map epoch_in (map kept entries.now)) version shard.now) below.now p
+        × (passes_first sieve.now p ≡ true))) }
 {
     for entry in entries {
         let ranges = entry.epoch.translate(alloc, below)?;
@@ -100,6 +122,7 @@ fn push_epochs<L: Ledger>(
             entry.epoch.id(),
             &ranges,
             version,
+            sieve,
             pairs,
             steps,
         )?;

@@ -1,5 +1,5 @@
-use Rattle.dl_scan.proofs.EpochLemmas.{GainsTo}
+use Rattle.dl_scan.proofs.EpochLemmas.{SiftsTo}
 use Rattle.dl_scan.proofs.scan.push_epochs.Given as goal
 
 abbrev pub invariant-loop-entry : goal.invariant-loop-entry
-invariant-loop-entry g l = GainsTo l.entries l.version l.shard l.below l.entry-index l.initial.pairs l.pairs
+invariant-loop-entry g l = SiftsTo l.entries l.version l.shard l.below l.sieve l.entry-index l.initial.pairs l.pairs

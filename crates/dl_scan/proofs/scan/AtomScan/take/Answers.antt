@@ -1,11 +1,9 @@
 use Rattle.std.proofs.Common.{map}
-use Rattle.dl_epoch.specs.Covering.{kept}
-use Rattle.dl_scan.specs.Scans.{scan}
-use Rattle.dl_scan.proofs.EpochLemmas.{took}
+use Rattle.dl_epoch.specs.Covering.{epoch_in}
+use Rattle.dl_scan.proofs.EpochLemmas.{took_all}
 use Rattle.dl_scan.proofs.scan.AtomScan.take.Goals as goal
 
 pub returns : goal.returns
 returns g c =
-    let s = c.self.inside in
-    took c.push_epochs.result (map kept c.entries-entries.result.now) c.args.epochs.now (scan s.below s.version s.pairs) c.args.self.now c.args.shard.now
-    c.push_epochs.new.pairs c.entries-entries.ensures.entries c.self.view_is c.push_epochs.ensures
+    took_all c.take_sifted.result (map epoch_in c.args.epochs.now) c.args.shard.now c.all-sieve.result c.args.self.now c.take_sifted.new.self
+    c.all-sieve.ensures c.take_sifted.ensures
