@@ -9,3 +9,4 @@ pub mod DecidedLemmas
 pub mod UnionLemmas
 pub mod KeptLemmas
 pub mod BrokenLemmas
+pub mod SiftedLemmas

@@ -29,11 +29,12 @@ use Rattle.dl_row.proofs.OrderedLemmas.{each-ordered}
 use Rattle.dl_epoch.specs.Frozen.{Frozen, from_version}
 use Rattle.dl_epoch.specs.Covering.{epoch_in}
 use Rattle.dl_scan.specs.Pairs.{visible_facts, pair_cmp}
-use Rattle.dl_scan.specs.Scans.{Scan, scan, Takes}
+use Rattle.dl_scan.specs.Scans.{Scan, scan, TakesSifted}
 use Rattle.dl_scan.proofs.FactLemmas.{said, said_of, named_of}
 use Rattle.dl_answer.specs.Facts.{HasPredicate}
 use Rattle.dl_answer.specs.Rows.{IsRowOf, AreRowsOf, StandFor}
-use Rattle.dl_answer.specs.Probes.{IsIndexOf, ArePairsBelow}
+use Rattle.dl_answer.specs.Probes.{IsIndexOf}
+use Rattle.dl_answer.specs.Sifted.{ArePairsSifted}
 use Rattle.dl_answer.specs.declared.index.FactRows.{FactRows}
 
 -- ---- the row of a fact
@@ -218,12 +219,12 @@ index_of e d facts index same one stand = record {
       (subst (λ z. StandFor z facts index.shard) same stand f);
 }
 
--- what a scan gave that began with no pair
-pub scanned_pairs : (index : FactRows) (below : Below) (start end : Scan) (pairs : List (ℕ × ℕ))
-    → start ≡ scan below 1 [] → Takes (map epoch_in index.epochs) index.shard start end
-    → IsSetOf pair_cmp pairs end.pairs → ArePairsBelow index below pairs
-scanned_pairs index below start end pairs is takes set =
-    let gained = (subst (λ s. Takes (map epoch_in index.epochs) index.shard s end) is takes).pairs in
+-- what a scan through a sieve gave that began with no pair
+pub sifted_pairs : (index : FactRows) (below : Below) (marks : List Bool) (start end : Scan) (pairs : List (ℕ × ℕ))
+    → start ≡ scan below 1 [] → TakesSifted (map epoch_in index.epochs) index.shard marks start end
+    → IsSetOf pair_cmp pairs end.pairs → ArePairsSifted index below marks pairs
+sifted_pairs index below marks start end pairs is takes set =
+    let gained = (subst (λ s. TakesSifted (map epoch_in index.epochs) index.shard marks s end) is takes).pairs in
     record {
       ascending = set.ascending;
       exact = λ p. (

@@ -5,3 +5,4 @@ pub mod Replies
 pub mod Probes
 pub mod Kept
 pub mod Verdicts
+pub mod Sifted

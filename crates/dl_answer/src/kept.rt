@@ -26,6 +26,9 @@ const PAIRS_A_FACT: usize = 4;
 /// How many pairs and basic concepts more may be kept, so that few facts don't make the lists go.
 const ROOM: usize = 1_048_576;
 
+/// How often a list is done without before it is made.
+const WITHOUT: usize = 8;
+
 impl KeptLists {
     /// No list, and the room for a number of facts.
     pub(crate) fn new(alloc: Global, facts: usize) -> Result<KeptLists, AllocError>
@@ -37,6 +40,7 @@ impl KeptLists {
             slots,
             room: most,
             most,
+            without: vec![in alloc; 0usize; SLOTS]?,
         })
     }
 
@@ -50,6 +54,27 @@ impl KeptLists {
             Some(kept) => pairs_for(kept, probe),
             None => None,
         }
+    }
+
+    /// How many pairs the list has that is kept of a probe like this one.
+    pub(crate) fn size(&self, probe: &Probe) -> Option<usize> {
+        match &self.slots[slot_of(probe)] {
+            Some(kept) => size_for(kept, probe),
+            None => None,
+        }
+    }
+
+    /// Counts that the list of a probe is asked for. True where it was done without so often that it is to be made.
+    pub(crate) fn is_due(&mut self, probe: &Probe) -> bool
+        ensures { (h : Hierarchy) (index : FactRows) → AreKept h index self.old → AreKept h index self.new }
+    {
+        let slot = slot_of(probe);
+        if self.without[slot] < WITHOUT {
+            self.without[slot] += 1;
+            return false;
+        }
+        self.without[slot] = 0;
+        true
     }
 
     /// Keeps the list of a probe, in place of what is in its slot. All lists go first where it finds no room among
@@ -120,6 +145,15 @@ fn pairs_for(kept: Kept, probe: &Probe) -> Option<List<Pair>>
 {
     if ask_alike(&kept.probe, probe) {
         Some(kept.pairs)
+    } else {
+        None
+    }
+}
+
+/// How many pairs are kept, where a probe asks for them.
+fn size_for(kept: &Kept, probe: &Probe) -> Option<usize> {
+    if ask_alike(&kept.probe, probe) {
+        Some(kept.pairs.len())
     } else {
         None
     }

@@ -12,7 +12,9 @@ mod kept;
 mod known;
 mod pairs;
 mod probes;
+mod sizes;
 mod slots;
+mod uneven;
 
 pub use answer::Answer;
 pub use asked::ask_facts;

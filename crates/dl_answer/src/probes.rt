@@ -11,6 +11,7 @@ ghost use Rattle.dl_rewrite.specs.OverNames.{HasOverNames};
 ghost use Rattle.dl_answer.specs.OverNames.{AreBelow};
 ghost use Rattle.dl_answer.specs.Probes.{AreBelowProbe, AreBehind, IsListOf};
 ghost use Rattle.dl_answer.specs.Kept.{AreKept, AreFirst};
+ghost use Rattle.dl_answer.specs.Sifted.{AreOfOneTerm};
 ghost use Rattle.dl_answer.specs.declared.index.FactRows.{FactRows};
 ghost use Rattle.dl_answer.specs.Replies.{GivesTuples};
 
@@ -18,6 +19,7 @@ use crate::index::FactRows;
 use crate::kept::{copy_of, earlier, keep_all};
 use crate::pairs::pairs_below;
 use crate::slots::KeptLists;
+use crate::uneven::{Fewer, lists_by_fewer, which_has_fewer};
 use dl_hier::{Below, Hier};
 use dl_join::{JoinFault, join};
 use dl_terms::{Base, Disjunct, List, NoMemory, Pair, Probe, Role, Tuples};
@@ -26,6 +28,59 @@ use std::alloc::Global;
 /// The tuples of a disjunct over names, each once, ascending. `TooMany` comes exactly where they are more than the
 /// limit. Lists that are kept of its probes are lent by moving them, and those that are made anew are kept after it.
 pub(crate) fn tuples_of(
+    alloc: Global,
+    hier: &Hier,
+    facts: &FactRows,
+    disjunct: &Disjunct,
+    kept: &mut KeptLists,
+    limit: u64,
+) -> Result<Tuples, JoinFault>
+    requires safe { IsSafe disjunct.now }
+    requires variables { AreBelow disjunct.now.vars disjunct.now.probes }
+    requires width { length disjunct.now.head < 2 ^ 32 }
+    requires kept { AreKept hier.now facts.now kept.old }
+    ensures kept { AreKept hier.now facts.now kept.new }
+    ensures ascending { IfOk result (λ tuples. AscendStrictly tuples.tuples) }
+    ensures width { IfOk result (λ tuples. tuples.width ≡ length disjunct.now.head) }
+    ensures within { IfOk result (λ tuples. length tuples.tuples ≤ limit) }
+    ensures tuples { (axioms : Items Axiom) (known : Items Fact) → AreBehind hier.now facts.now axioms known →
+        GivesTuples (HasOverNames axioms known disjunct.now) limit result }
+{
+    match which_has_fewer(alloc, hier, facts, disjunct.probes.as_slice(), kept)? {
+        Some(first) => tuples_by_fewer(alloc, hier, facts, disjunct, first, kept, limit),
+        None => tuples_by_all(alloc, hier, facts, disjunct, kept, limit),
+    }
+}
+
+/// The tuples of a disjunct of two probes of one term, of which one has far fewer pairs than the other.
+fn tuples_by_fewer(
+    alloc: Global,
+    hier: &Hier,
+    facts: &FactRows,
+    disjunct: &Disjunct,
+    first: Fewer,
+    kept: &mut KeptLists,
+    limit: u64,
+) -> Result<Tuples, JoinFault>
+    requires one_term { AreOfOneTerm disjunct.now.probes }
+    requires safe { IsSafe disjunct.now }
+    requires variables { AreBelow disjunct.now.vars disjunct.now.probes }
+    requires width { length disjunct.now.head < 2 ^ 32 }
+    requires kept { AreKept hier.now facts.now kept.old }
+    ensures kept { AreKept hier.now facts.now kept.new }
+    ensures ascending { IfOk result (λ tuples. AscendStrictly tuples.tuples) }
+    ensures width { IfOk result (λ tuples. tuples.width ≡ length disjunct.now.head) }
+    ensures within { IfOk result (λ tuples. length tuples.tuples ≤ limit) }
+    ensures tuples { (axioms : Items Axiom) (known : Items Fact) → AreBehind hier.now facts.now axioms known →
+        GivesTuples (HasOverNames axioms known disjunct.now) limit result }
+{
+    let probes = disjunct.probes.as_slice();
+    let lists = lists_by_fewer(alloc, hier, facts, probes, first, kept)?;
+    join(alloc, disjunct, lists.as_slice(), limit)
+}
+
+/// The tuples of a disjunct by the whole lists of its probes.
+fn tuples_by_all(
     alloc: Global,
     hier: &Hier,
     facts: &FactRows,
@@ -142,6 +197,21 @@ fn shared_list(
     if let Some(pairs) = earlier(before, lists, probe) {
         return Ok(copy_of(alloc, pairs)?);
     }
+    kept_or_made(alloc, hier, facts, probe, kept)
+}
+
+/// The sorted list of the pairs of a probe: the one that is kept, or a new one.
+pub(crate) fn kept_or_made(
+    alloc: Global,
+    hier: &Hier,
+    facts: &FactRows,
+    probe: &Probe,
+    kept: &mut KeptLists,
+) -> Result<List<Pair>, NoMemory>
+    requires kept { AreKept hier.now facts.now kept.old }
+    ensures kept { AreKept hier.now facts.now kept.new }
+    ensures list { IfOk result (IsListOf hier.now facts.now probe.now) }
+{
     match kept.take(probe) {
         Some(pairs) => Ok(pairs),
         None => list_of(alloc, hier, facts, probe),
@@ -149,7 +219,7 @@ fn shared_list(
 }
 
 /// The sorted list of the pairs of a probe.
-pub(crate) fn list_of(
+fn list_of(
     alloc: Global,
     hier: &Hier,
     facts: &FactRows,
@@ -162,7 +232,7 @@ pub(crate) fn list_of(
 }
 
 /// The predicates below the basic concepts or the role of a probe.
-fn below_of(alloc: Global, hier: &Hier, probe: &Probe) -> Result<Below, NoMemory>
+pub(crate) fn below_of(alloc: Global, hier: &Hier, probe: &Probe) -> Result<Below, NoMemory>
     ensures { IfOk result (λ below. (axioms : Items Axiom) → IsHierarchyOf hier.now axioms →
         AreBelowProbe axioms hier.now.predicates probe.now below) }
 {

@@ -18,5 +18,8 @@ pub(crate) struct KeptLists {
     /// How many more pairs and basic concepts may be kept, and how many in all.
     pub room: usize,
     pub most: usize,
+    /// How often the list of a slot's probe was done without, since one was to be made.
+    pub without: Vec<usize>,
     ghost slots_are_there: { vec_len slots ≡ 8192 },
+    ghost counts_are_there: { vec_len without ≡ 8192 },
 }

@@ -2,7 +2,7 @@ use Rattle.std.proofs.Common.{sym, subst}
 use Rattle.dl_join.specs.Disjuncts.{AreSorted}
 use Rattle.dl_answer.specs.Kept.{AreFirst}
 use Rattle.dl_answer.proofs.KeptLemmas.{first_sorted}
-use Rattle.dl_answer.proofs.probes.tuples_of.Goals as goal
+use Rattle.dl_answer.proofs.probes.tuples_by_all.Goals as goal
 
 pub tuples_over-tuples-requires-clause-sorted : goal.tuples_over-tuples-requires-clause-sorted
 tuples_over-tuples-requires-clause-sorted c =
