@@ -52,7 +52,8 @@ pub fn push_ranges<L: Ledger>(
     pairs: &mut List<Pair>,
     steps: &mut Steps<L>,
 ) -> Result<(), NoMemory>
-    ensures { OnOk result (pairs.new ≡ pairs.old ++ filter (passes_first sieve.now) (all_read epoch ranges.now version shard.now)) }
+    ensures { OnOk result
+        (pairs.new ≡ pairs.old ++ filter (passes_first sieve.now) (all_read epoch ranges.now version shard.now)) }
 {
     push_read(
         alloc,
@@ -101,7 +102,8 @@ fn push_read<L: Ledger>(
     pairs: &mut List<Pair>,
     steps: &mut Steps<L>,
 ) -> Result<(), NoMemory>
-    ensures { OnOk result (pairs.new ≡ pairs.old ++ filter (passes_first sieve.now) (pairs_read how epoch ranges.now version shard.now)) }
+    ensures { OnOk result
+        (pairs.new ≡ pairs.old ++ filter (passes_first sieve.now) (pairs_read how epoch ranges.now version shard.now)) }
 {
     let mut found = List::new(alloc);
     shard.scan(epoch, kind_of(how), ranges, version, &mut found, steps)?;
