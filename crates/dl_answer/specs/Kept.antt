@@ -25,5 +25,5 @@ AreKept h index kept = All (IsSlotKept h index) kept.slots.items
 
 -- each of some lists is that of the probe at its place
 abbrev pub AreFirst : Hierarchy → FactRows → List Probe → List (List (ℕ × ℕ)) → Type 0
-AreFirst h index probes lists =
-    (k : ℕ) (p : Probe) → k < length lists → IsListOf h index (slice_index_or probes k p) (slice_index_or lists k [])
+AreFirst h index probes lists = (k : ℕ) (p : Probe) → k < length lists
+    → IsListOf h index (slice_index_or probes k p) (slice_index_or lists k [])

@@ -36,7 +36,8 @@ version_of (Inconsistent version broken) = version
 
 -- an answer is the defined reply at a version, `TooMany` comes where that is that there are too many, and `NoPin`
 -- never
-abbrev pub RepliesTo : List Axiom → List Fact → Option ℕ → Query → (limit version : ℕ) → Result Answer AskFault → Type 0
+abbrev pub RepliesTo : List Axiom → List Fact → Option ℕ → Query → (limit version : ℕ)
+    → Result Answer AskFault → Type 0
 RepliesTo axioms facts nothing q limit version (Ok answer) =
     IsReply axioms facts nothing q limit (reply_of answer) × (version_of answer ≡ version)
 RepliesTo axioms facts nothing q limit version (Err NoPin) = ⊥

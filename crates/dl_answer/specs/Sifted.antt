@@ -31,9 +31,11 @@ pub record AreOfOneTerm (probes : List Probe) : Type 0 where
   pub are : probes ≡ AnyOf ones term ∷ AnyOf others term ∷ []
 
 -- exactly the pairs of the facts of an index below what is asked whose first name passes a sieve, ascending
-pub record ArePairsSifted (index : FactRows) (below : Below) (marks : List Bool) (pairs : List (ℕ × ℕ)) : Type 0 where
+pub record ArePairsSifted (index : FactRows) (below : Below) (marks : List Bool) (pairs : List (ℕ × ℕ))
+    : Type 0 where
   pub ascending : IsStrictlySortedBy pair_cmp pairs
-  pub exact : (p : ℕ × ℕ) → Contains pairs p ↔ (IsPairBelow (facts_in index) below p × (passes_first marks p ≡ true))
+  pub exact : (p : ℕ × ℕ) → Contains pairs p
+      ↔ (IsPairBelow (facts_in index) below p × (passes_first marks p ≡ true))
 
 -- a name is first in a pair
 abbrev pub IsFirst : List (ℕ × ℕ) → ℕ → Type 0
@@ -46,8 +48,8 @@ first_term (Joined role t u) = t
 
 -- a sorted list over which a probe holds only where it holds over axioms and facts, and over which it holds there where
 -- its first name is first in one of some other pairs
-pub record IsListAmong (h : Hierarchy) (index : FactRows) (probe : Probe) (others : List (ℕ × ℕ)) (pairs : List (ℕ × ℕ))
-    : Type 0 where
+pub record IsListAmong (h : Hierarchy) (index : FactRows) (probe : Probe)
+    (others : List (ℕ × ℕ)) (pairs : List (ℕ × ℕ)) : Type 0 where
   pub sorted : IsSorted pair_cmp pairs
   pub sound : (axioms : List Axiom) (facts : List Fact) → AreBehind h index axioms facts → (names : ℕ → ℕ)
       → join.ProbeHolds names pairs probe → ProbeHolds axioms facts names probe

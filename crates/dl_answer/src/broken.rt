@@ -39,8 +39,8 @@ pub(crate) fn first_broken(
     requires count { length axioms.now < 2 ^ 32 }
     requires kept { AreKept hier.now facts.now kept.old }
     ensures kept { AreKept hier.now facts.now kept.new }
-    ensures verdict { IfOk result (λ verdict. (known : Items Fact) → AreBehind hier.now facts.now axioms.now known →
-        Finds axioms.now known nothing verdict) }
+    ensures verdict { IfOk result (λ verdict. (known : Items Fact) →
+        AreBehind hier.now facts.now axioms.now known → Finds axioms.now known nothing verdict) }
 {
     let normal = normal(alloc, axioms)?;
     if let Some(index) = first_met(alloc, hier, facts, kept, normal.negatives.as_slice())? {
