@@ -14,7 +14,8 @@ use Rattle.dl_hier.specs.Predicates.{Predicates, AreInOrder, roles, basics}
 use Rattle.dl_hier.specs.Rows.{HasInclusions, role_steps, concept_steps}
 use Rattle.dl_hier.specs.Hierarchy.{IsHierarchyOf}
 use Rattle.dl_hier.specs.Nodes.{StandsAt, ends_of}
-use Rattle.dl_hier.specs.Graphs.{AreEdges, AreBothWays, AreTurned, IsClosureOf, shifted, hierarchy_over}
+use Rattle.dl_hier.specs.Ways.{Ways, AreWaysOf}
+use Rattle.dl_hier.specs.Graphs.{AreEdges, AreWaysFor, shifted, hierarchy_over}
 use Rattle.dl_hier.proofs.MemberLemmas.{Contains-map, Contains-map_of, StandsAt-default}
 use Rattle.dl_hier.proofs.PredicateLemmas.{basic-at_role, length-basics}
 use Rattle.dl_hier.proofs.StepLemmas.{IsHierarchyOf-rows}
@@ -160,29 +161,29 @@ module _ (p : Predicates) (normal : Normal) (role_rows : List (Role × Role)) (c
       subst (λ l. AreEdges (Class 0) (basics p) (concept_steps (role_steps normal.roles) l) of_basics) are_concepts
       (of_concepts (role_steps normal.roles) (subst (AreEdges (named 0) (roles p) (role_steps normal.roles)) (sym same) built_roles))
 
-  module _ (role_slice basic_slice : List (ℕ × ℕ)) (same_r : role_slice ≡ of_roles) (same_b : basic_slice ≡ of_basics) (r b : Digraph)
-      (is_r : IsClosureOf (length (roles p)) role_slice r) (is_b : IsClosureOf (length (basics p)) basic_slice b) where
-    same_roles : SameEdges r.edges of_roles
-    same_roles = subst (SameEdges r.edges) same_r is_r.edges
+  module _ (role_slice basic_slice : List (ℕ × ℕ)) (same_r : role_slice ≡ of_roles) (same_b : basic_slice ≡ of_basics) (r b : Ways)
+      (is_r : AreWaysOf (length (roles p)) 0 role_slice r) (is_b : AreWaysOf (length p.classes) (length (roles p)) basic_slice b) where
+    same_roles : SameEdges r.graph.edges of_roles
+    same_roles = subst (SameEdges r.graph.edges) same_r is_r.same
 
-    same_basics : SameEdges b.edges of_basics
-    same_basics = subst (SameEdges b.edges) same_b is_b.edges
+    same_basics : SameEdges b.graph.edges of_basics
+    same_basics = subst (SameEdges b.graph.edges) same_b is_b.same
 
-    pub built_hierarchy : (axioms : List Axiom) → HasInclusions axioms normal → IsHierarchyOf (hierarchy_over p r b) axioms
-    built_hierarchy = IsHierarchyOf-graphs p normal r b of_roles of_basics built_roles built_basics same_roles same_basics
+    pub built_hierarchy : (axioms : List Axiom) → HasInclusions axioms normal → IsHierarchyOf (hierarchy_over p r.graph b.graph) axioms
+    built_hierarchy = IsHierarchyOf-graphs p normal r.graph b.graph of_roles of_basics built_roles built_basics same_roles same_basics
 
-    pub built : (list : List Role) → AreInOrder p → list ≡ roles p → (role_slice_too basic_slice_too : List (ℕ × ℕ)) → role_slice_too ≡ of_roles
-        → basic_slice_too ≡ of_basics → (back_r back_b : Digraph) → AreTurned p role_slice_too basic_slice_too back_r back_b
-        → AreBothWays p list r b back_r back_b
-    built list order listed role_slice_too basic_slice_too too_r too_b back_r back_b turned = record {
+    pub built : (list : List Role) → AreInOrder p → list ≡ roles p → AreWaysFor p list r b
+    built list order listed = record {
       graphs = record {
         order = order;
         listed = listed;
-        role_nodes = is_r.nodes;
-        role_ends = ends_same (length (roles p)) r.edges of_roles same_roles built_roles.ends;
-        basic_nodes = is_b.nodes;
-        basic_ends = ends_same (length (basics p)) b.edges of_basics same_basics built_basics.ends;
+        role_nodes = let n = is_r.nodes in omega (arith, n);
+        role_ends = ends_same (length (roles p)) r.graph.edges of_roles same_roles built_roles.ends;
+        basic_nodes = let n = is_b.nodes in let l = length-basics p in omega (arith, n, l);
+        basic_ends = ends_same (length (basics p)) b.graph.edges of_basics same_basics built_basics.ends;
       };
-      role_turned = turned.of_roles r (subst (SameEdges r.edges) (sym too_r) same_roles);
-      basic_turned = turned.of_basics b (subst (SameEdges b.edges) (sym too_b) same_basics);
+      roles_first = is_r.first_is;
+      roles_rest = is_r.rest_is;
+      classes = is_b.first_is;
+      some = is_b.rest_is;
     }

@@ -9,4 +9,5 @@ pub mod PickLemmas
 pub mod NameLemmas
 pub mod SearchLemmas
 pub mod HierLemmas
-pub mod TurnedLemmas
+pub mod WayLemmas
+pub mod RowLemmas

@@ -8,7 +8,7 @@ ghost use Rattle.dl_reach.specs.Digraph.{IsEdge, max_nodes};
 ghost use Rattle.dl_hier.specs.Predicates.{max_predicates};
 ghost use Rattle.dl_hier.specs.Picking.{ArePicked, LeadsToOneOf};
 
-use dl_reach::Closure;
+use crate::ways::Ways;
 use dl_terms::{List, NoMemory, Role};
 use std::alloc::Global;
 
@@ -25,23 +25,23 @@ pub struct Below {
 /// later one is `every` nodes further.
 pub(crate) fn names_leading(
     alloc: Global,
-    closure: &Closure,
+    ways: &Ways,
     names: &[u32],
     first: u32,
     every: u32,
     targets: &[u32],
 ) -> Result<List<u32>, NoMemory>
-    requires few { closure.now.nodes ≤ max_nodes }
+    requires few { ways.now.graph.nodes ≤ max_nodes }
     requires few_names { length names.now ≤ max_predicates }
-    requires nodes { (k : ℕ) → k < length names.now → first + k * every < closure.now.nodes }
-    requires targets { All (λ t. t < closure.now.nodes) targets.now }
+    requires nodes { (k : ℕ) → k < length names.now → first + k * every < ways.now.graph.nodes }
+    requires targets { All (λ t. t < ways.now.graph.nodes) targets.now }
     requires ascending { IsStrictlySortedBy nat_cmp names.now }
     ensures { IfOk result (ArePicked nat_cmp names.now
-        (λ k. LeadsToOneOf closure.now targets.now (first + k * every))) }
+        (λ k. LeadsToOneOf ways.now.graph targets.now (first + k * every))) }
 {
     let mut found = List::new(alloc);
     for (i, name) in names.iter().enumerate() {
-        if leads_to_one_of(closure, first + i as u32 * every, targets) {
+        if leads_to_one_of(ways, first + i as u32 * every, targets) {
             found.push(*name)?;
         }
     }
@@ -51,21 +51,21 @@ pub(crate) fn names_leading(
 /// The roles to which a chain leads from a node: the node of the first role is `first`, and those of the others follow.
 pub(crate) fn roles_reached(
     alloc: Global,
-    closure: &Closure,
+    ways: &Ways,
     from: u32,
     roles: &[Role],
     first: u32,
 ) -> Result<List<Role>, NoMemory>
-    requires few { closure.now.nodes ≤ max_nodes }
-    requires nodes { first + length roles.now ≤ closure.now.nodes }
-    requires from { from < closure.now.nodes }
+    requires few { ways.now.graph.nodes ≤ max_nodes }
+    requires nodes { first + length roles.now ≤ ways.now.graph.nodes }
+    requires from { from < ways.now.graph.nodes }
     requires ascending { IsStrictlySortedBy role_cmp roles.now }
     ensures { IfOk result (ArePicked role_cmp roles.now
-        (λ k. Chain (IsEdge closure.now) from (first + k))) }
+        (λ k. Chain (IsEdge ways.now.graph) from (first + k))) }
 {
     let mut found = List::new(alloc);
     for (i, role) in roles.iter().enumerate() {
-        if closure.has(from, first + i as u32) {
+        if ways.has(from, first + i as u32) {
             found.push(*role)?;
         }
     }
@@ -73,13 +73,13 @@ pub(crate) fn roles_reached(
 }
 
 /// Whether a chain leads to one of the targets.
-fn leads_to_one_of(closure: &Closure, node: u32, targets: &[u32]) -> bool
-    requires node { node < closure.now.nodes }
-    requires targets { All (λ t. t < closure.now.nodes) targets.now }
-    ensures { IsTrue result ↔ LeadsToOneOf closure.now targets.now node }
+fn leads_to_one_of(ways: &Ways, node: u32, targets: &[u32]) -> bool
+    requires node { node < ways.now.graph.nodes }
+    requires targets { All (λ t. t < ways.now.graph.nodes) targets.now }
+    ensures { IsTrue result ↔ LeadsToOneOf ways.now.graph targets.now node }
 {
     for target in targets {
-        if closure.has(node, *target) {
+        if ways.has(node, *target) {
             return true;
         }
     }

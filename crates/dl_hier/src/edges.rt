@@ -2,14 +2,15 @@
 ghost use Rattle.std.specs.Prelude.{◌≡◌, ◌+◌, ◌*◌, ◌/◌, ◌++◌, ◌<◌, ◌≤◌, ◌^◌, ◌↔◌, ℕ, List as Items, map, length, slice_index_or, All, Contains, IfOk, OnOk};
 ghost use Rattle.dl_terms.specs.Roles.{named, inverse_of};
 ghost use Rattle.dl_terms.specs.declared.role.Basic.TheVariants.{Class};
-ghost use Rattle.dl_reach.specs.Digraph.{Digraph, EndsBelow, max_nodes};
+ghost use Rattle.dl_reach.specs.Digraph.{EndsBelow, max_nodes};
 ghost use Rattle.dl_hier.specs.Predicates.{roles, basics, max_predicates};
 ghost use Rattle.dl_hier.specs.Rows.{role_steps, concept_steps};
 ghost use Rattle.dl_hier.specs.Nodes.{StandsAt, ends_of};
-ghost use Rattle.dl_hier.specs.Graphs.{AreEdges, IsClosureOf, shifted, leading, turned_ends, IsTurned, AreTurned};
+ghost use Rattle.dl_hier.specs.Graphs.{AreEdges, shifted};
+ghost use Rattle.dl_hier.specs.Ways.{AreWaysOf};
 
 use crate::nodes::Nodes;
-use dl_reach::{Closure, Graph};
+use crate::ways::Ways;
 use dl_terms::{Basic, NoMemory, Role};
 use std::alloc::{AllocError, Global};
 
@@ -80,137 +81,23 @@ pub(crate) fn basic_edges(
     Ok(edges)
 }
 
-/// The closures of the edges of the roles, and of those of the basic concepts.
-pub(crate) fn closures(
+/// The ways of the edges of the roles, and of those of the basic concepts: in a row the roles stand first, each as
+/// "some" of its inverse, and then the classes.
+pub(crate) fn ways(
     alloc: Global,
     nodes: &Nodes,
     role_edges: &[(u32, u32)],
     basic_edges: &[(u32, u32)],
-) -> Result<(Closure, Closure), NoMemory>
+) -> Result<(Ways, Ways), NoMemory>
     requires few { length (basics nodes.now) ≤ max_nodes }
     requires role_ends { EndsBelow (length (roles nodes.now)) role_edges.now }
     requires basic_ends { EndsBelow (length (basics nodes.now)) basic_edges.now }
-    ensures { IfOk result (λ p. IsClosureOf (length (roles nodes.now)) role_edges.now p.0
-        × IsClosureOf (length (basics nodes.now)) basic_edges.now p.1) }
+    ensures { IfOk result (λ p. AreWaysOf (length (roles nodes.now)) 0 role_edges.now p.0
+        × AreWaysOf (length nodes.now.classes) (length (roles nodes.now)) basic_edges.now p.1) }
 {
-    let of_roles = closure_of(alloc, nodes.role_count(), role_edges)?;
-    let count = nodes.class_count() + nodes.role_count();
-    let of_basics = closure_of(alloc, count, basic_edges)?;
+    let of_roles = Ways::of(alloc, nodes.role_count(), 0, role_edges)?;
+    let of_basics = Ways::of(alloc, nodes.class_count(), nodes.role_count(), basic_edges)?;
     Ok((of_roles, of_basics))
-}
-
-/// The closures of the edges of the roles turned round, and of those of the basic concepts.
-pub(crate) fn turned(
-    alloc: Global,
-    nodes: &Nodes,
-    role_edges: &[(u32, u32)],
-    basic_edges: &[(u32, u32)],
-) -> Result<(Closure, Closure), NoMemory>
-    requires few { length (basics nodes.now) ≤ max_nodes }
-    requires role_ends { EndsBelow (length (roles nodes.now)) role_edges.now }
-    requires basic_ends { EndsBelow (length (basics nodes.now)) basic_edges.now }
-    ensures { IfOk result (λ p. AreTurned nodes.now role_edges.now basic_edges.now p.0 p.1) }
-{
-    let of_roles = turned_roles(alloc, nodes, role_edges)?;
-    let of_basics = turned_basics(alloc, nodes, basic_edges)?;
-    Ok((of_roles, of_basics))
-}
-
-/// The closure of the edges of the roles turned round.
-fn turned_roles(alloc: Global, nodes: &Nodes, edges: &[(u32, u32)]) -> Result<Closure, NoMemory>
-    requires few { length (roles nodes.now) ≤ max_nodes }
-    requires ends { EndsBelow (length (roles nodes.now)) edges.now }
-    ensures { IfOk result (λ turned. (graph : Digraph)
-        → ((a b : ℕ) → Contains graph.edges (a, b) ↔ Contains edges.now (a, b))
-        → IsTurned (named 0) (roles nodes.now) (roles nodes.now) graph turned) }
-{
-    let turned = turned_role_edges(alloc, nodes, edges)?;
-    closure_of(alloc, nodes.role_count(), &turned)
-}
-
-/// The closure of the edges of the basic concepts turned round, between the nodes in their other order.
-fn turned_basics(alloc: Global, nodes: &Nodes, edges: &[(u32, u32)]) -> Result<Closure, NoMemory>
-    requires few { length (basics nodes.now) ≤ max_nodes }
-    requires ends { EndsBelow (length (basics nodes.now)) edges.now }
-    ensures { IfOk result (λ turned. (graph : Digraph)
-        → ((a b : ℕ) → Contains graph.edges (a, b) ↔ Contains edges.now (a, b))
-        → IsTurned (Class 0) (basics nodes.now) (leading nodes.now) graph turned) }
-{
-    let turned = turned_basic_edges(alloc, nodes, edges)?;
-    closure_of(alloc, nodes.class_count() + nodes.role_count(), &turned)
-}
-
-/// The edges of the roles turned round.
-fn turned_role_edges(
-    alloc: Global,
-    nodes: &Nodes,
-    edges: &[(u32, u32)],
-) -> Result<Vec<(u32, u32)>, AllocError>
-    requires { EndsBelow (length (roles nodes.now)) edges.now }
-    ensures { IfOk result (λ turned. AreEdges (named 0) (roles nodes.now)
-        (map (turned_ends (named 0) (roles nodes.now)) edges.now) turned.items) }
-{
-    let mut turned = Vec::new(alloc);
-    for (from, to) in edges {
-        turned.push((*to, *from))?;
-    }
-    Ok(turned)
-}
-
-/// The edges of the basic concepts turned round, between the nodes in their other order.
-fn turned_basic_edges(
-    alloc: Global,
-    nodes: &Nodes,
-    edges: &[(u32, u32)],
-) -> Result<Vec<(u32, u32)>, AllocError>
-    requires few { length (basics nodes.now) ≤ max_nodes }
-    requires ends { EndsBelow (length (basics nodes.now)) edges.now }
-    ensures { IfOk result (λ turned. AreEdges (Class 0) (leading nodes.now)
-        (map (turned_ends (Class 0) (basics nodes.now)) edges.now) turned.items) }
-{
-    let mut turned = Vec::new(alloc);
-    for (from, to) in edges {
-        turned.push((leading_node(nodes, *to), leading_node(nodes, *from)))?;
-    }
-    Ok(turned)
-}
-
-/// The node in the other order of the basic concept of a node.
-pub(crate) fn leading_node(nodes: &Nodes, node: u32) -> u32
-    requires few { length (basics nodes.now) ≤ max_nodes }
-    requires node { node < length (basics nodes.now) }
-    ensures { StandsAt (leading nodes.now) result (slice_index_or (basics nodes.now) node (Class 0)) }
-{
-    let classes = nodes.class_count();
-    if node < classes {
-        nodes.role_count() + node
-    } else {
-        inverse_node(node - classes)
-    }
-}
-
-/// The node of the inverse of the role of a node.
-fn inverse_node(node: u32) -> u32
-    ensures { (result + node ≡ 4 * (node / 2) + 1) × (result / 2 ≡ node / 2) }
-{
-    if node % 2 == 0 { node + 1 } else { node - 1 }
-}
-
-/// The closure of a graph.
-fn closure_of(alloc: Global, nodes: u32, edges: &[(u32, u32)]) -> Result<Closure, NoMemory>
-    requires few { nodes ≤ max_nodes }
-    requires ends { EndsBelow nodes edges.now }
-    ensures nodes { IfOk result (λ closure. closure.nodes ≡ nodes) }
-    ensures edges { IfOk result (λ closure.
-        (a b : ℕ) → Contains closure.edges (a, b) ↔ Contains edges.now (a, b)) }
-{
-    match Graph::new(alloc, nodes, edges) {
-        Ok(graph) => match graph.closure(alloc) {
-            Ok(closure) => Ok(closure),
-            Err(_) => Err(NoMemory),
-        },
-        Err(_) => Err(NoMemory),
-    }
 }
 
 /// The node of a role of the hierarchy.

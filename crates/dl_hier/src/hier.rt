@@ -14,9 +14,9 @@ ghost use Rattle.dl_hier.specs.Below.{IsBelowOneOf, AreThose};
 ghost use Rattle.dl_hier.specs.Picking.{AreTargets};
 
 use crate::below::{Below, names_leading, roles_reached};
-use crate::edges::{basic_edges, closures, inverse_of, leading_node, role_edges, turned};
+use crate::edges::{basic_edges, inverse_of, role_edges, ways};
 use crate::nodes::Nodes;
-use dl_reach::Closure;
+use crate::ways::Ways;
 use dl_terms::{Basic, List, NoMemory, Normal, Role, Signature};
 use std::alloc::{AllocError, Global};
 use std::marker::Model;
@@ -28,22 +28,19 @@ use std::marker::Model;
 pub struct Hier {
     nodes: Nodes,
     roles: List<Role>,
-    role_closure: Closure,
-    basic_closure: Closure,
-    turned_roles: Closure,
-    turned_basics: Closure,
+    role_ways: Ways,
+    basic_ways: Ways,
 }
 
 impl Model for Hier {
     ghost use Rattle.dl_hier.specs.Hierarchy.{Hierarchy};
-    ghost use Rattle.dl_hier.specs.Graphs.{hierarchy_over, AreBothWays};
+    ghost use Rattle.dl_hier.specs.Graphs.{hierarchy_over, AreWaysFor};
 
     ghost Value = { Hierarchy };
 
-    ghost view = { λ h. hierarchy_over h.nodes h.role_closure h.basic_closure };
+    ghost view = { λ h. hierarchy_over h.nodes h.role_ways.graph h.basic_ways.graph };
 
-    ghost invariant = { λ h.
-        AreBothWays h.nodes h.roles h.role_closure h.basic_closure h.turned_roles h.turned_basics };
+    ghost invariant = { λ h. AreWaysFor h.nodes h.roles h.role_ways h.basic_ways };
 }
 
 impl Hier {
@@ -62,15 +59,12 @@ impl Hier {
         let role_edges = role_edges(alloc, &nodes, normal.roles.as_slice())?;
         let concepts = normal.concepts.as_slice();
         let basic_edges = basic_edges(alloc, &nodes, concepts, &role_edges)?;
-        let (role_closure, basic_closure) = closures(alloc, &nodes, &role_edges, &basic_edges)?;
-        let (turned_roles, turned_basics) = turned(alloc, &nodes, &role_edges, &basic_edges)?;
+        let (role_ways, basic_ways) = ways(alloc, &nodes, &role_edges, &basic_edges)?;
         Ok(Hier {
             nodes,
             roles,
-            role_closure,
-            basic_closure,
-            turned_roles,
-            turned_basics,
+            role_ways,
+            basic_ways,
         })
     }
 
@@ -82,7 +76,7 @@ impl Hier {
     {
         match self.nodes.role(sub) {
             Some(from) => match self.nodes.role(sup) {
-                Some(to) => self.role_closure.has(from, to),
+                Some(to) => self.role_ways.has(from, to),
                 None => false,
             },
             None => are_same_roles(sub, sup),
@@ -97,7 +91,7 @@ impl Hier {
     {
         match self.nodes.basic(sub) {
             Some(from) => match self.nodes.basic(sup) {
-                Some(to) => self.basic_closure.has(from, to),
+                Some(to) => self.basic_ways.has(from, to),
                 None => false,
             },
             None => are_same_basics(sub, sup),
@@ -139,14 +133,14 @@ impl Hier {
             (λ p. IsBelowOneOf axioms basics.now (SomeOf (inverse_of (named p)))) below.backward) }
     {
         let targets = targets(alloc, &self.nodes, basics)?;
-        let closure = &self.basic_closure;
+        let ways = &self.basic_ways;
         let classes = self.nodes.classes();
         let properties = self.nodes.properties();
         let count = self.nodes.class_count();
         Ok(Below {
-            classes: names_leading(alloc, closure, classes, 0, 1, &targets)?,
-            forward: names_leading(alloc, closure, properties, count, 2, &targets)?,
-            backward: names_leading(alloc, closure, properties, count + 1, 2, &targets)?,
+            classes: names_leading(alloc, ways, classes, 0, 1, &targets)?,
+            forward: names_leading(alloc, ways, properties, count, 2, &targets)?,
+            backward: names_leading(alloc, ways, properties, count + 1, 2, &targets)?,
         })
     }
 
@@ -164,12 +158,12 @@ impl Hier {
             (λ p. RoleBelow axioms (inverse_of (named p)) role) below.backward) }
     {
         let targets = role_targets(alloc, &self.nodes, role)?;
-        let closure = &self.role_closure;
+        let ways = &self.role_ways;
         let properties = self.nodes.properties();
         Ok(Below {
             classes: List::new(alloc),
-            forward: names_leading(alloc, closure, properties, 0, 2, &targets)?,
-            backward: names_leading(alloc, closure, properties, 1, 2, &targets)?,
+            forward: names_leading(alloc, ways, properties, 0, 2, &targets)?,
+            backward: names_leading(alloc, ways, properties, 1, 2, &targets)?,
         })
     }
 
@@ -181,9 +175,7 @@ impl Hier {
             ↔ (Contains (roles self.now.predicates) s × RoleBelow axioms role s)) }
     {
         match self.nodes.role(role) {
-            Some(from) => {
-                roles_reached(alloc, &self.role_closure, from, self.roles.as_slice(), 0)
-            }
+            Some(from) => { roles_reached(alloc, &self.role_ways, from, self.roles.as_slice(), 0) }
             None => Ok(List::new(alloc)),
         }
     }
@@ -200,13 +192,7 @@ impl Hier {
         let first = self.nodes.class_count();
         match self.nodes.basic(Basic::SomeOf(inverse_of(role))) {
             Some(from) => {
-                roles_reached(
-                    alloc,
-                    &self.basic_closure,
-                    from,
-                    self.roles.as_slice(),
-                    first,
-                )
+                roles_reached(alloc, &self.basic_ways, from, self.roles.as_slice(), first)
             }
             None => Ok(List::new(alloc)),
         }
@@ -220,7 +206,7 @@ impl Hier {
             ↔ RoleBelow axioms (slice_index_or (roles self.now.predicates) i (named 0)) role }
     {
         match self.nodes.role(role) {
-            Some(node) => self.turned_roles.row(node),
+            Some(node) => self.role_ways.row(node),
             None => &[],
         }
     }
@@ -233,7 +219,7 @@ impl Hier {
             ↔ ConceptBelow axioms (SomeOf (inverse_of (slice_index_or (roles self.now.predicates) i (named 0)))) basic }
     {
         match self.nodes.basic(basic) {
-            Some(node) => self.turned_basics.row(leading_node(&self.nodes, node)),
+            Some(node) => self.basic_ways.row(node),
             None => &[],
         }
     }

@@ -8,6 +8,7 @@ mod fit;
 mod guesses;
 mod hier;
 mod nodes;
+mod ways;
 
 pub use below::Below;
 pub use fit::{MAX_PREDICATES, fits};

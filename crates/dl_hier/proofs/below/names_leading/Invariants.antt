@@ -5,4 +5,4 @@ use Rattle.dl_hier.proofs.PickLemmas.{ArePickedTo}
 use Rattle.dl_hier.proofs.below.names_leading.Given as goal
 
 abbrev pub invariant-loop-i : goal.invariant-loop-i
-invariant-loop-i l = ArePickedTo nat_cmp l.names (λ k. LeadsToOneOf l.closure l.targets (l.first + k * l.every)) l.i l.found
+invariant-loop-i l = ArePickedTo nat_cmp l.names (λ k. LeadsToOneOf l.ways.graph l.targets (l.first + k * l.every)) l.i l.found

@@ -6,4 +6,4 @@ use Rattle.dl_hier.proofs.PickLemmas.{ArePickedTo}
 use Rattle.dl_hier.proofs.below.roles_reached.Given as goal
 
 abbrev pub invariant-loop-i : goal.invariant-loop-i
-invariant-loop-i l = ArePickedTo role_cmp l.roles (λ k. Chain (IsEdge l.closure) l.from (l.first + k)) l.i l.found
+invariant-loop-i l = ArePickedTo role_cmp l.roles (λ k. Chain (IsEdge l.ways.graph) l.from (l.first + k)) l.i l.found

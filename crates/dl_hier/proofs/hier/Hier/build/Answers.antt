@@ -28,32 +28,18 @@ pub basic_edges-requires-clause-ends : goal.basic_edges-requires-clause-ends
 basic_edges-requires-clause-ends c =
     subst (EndsBelow (length (roles c.in_ok-nodes.nodes))) (sym c.deref.ensures.value) c.in_ok-role_edges.ensures.ends
 
-pub closures-requires-clause-few : goal.closures-requires-clause-few
-closures-requires-clause-few c = omega (arith, basics_few c.in_ok-nodes.nodes c.in_ok-nodes.ensures.order)
+pub ways-requires-clause-few : goal.ways-requires-clause-few
+ways-requires-clause-few c = omega (arith, basics_few c.in_ok-nodes.nodes c.in_ok-nodes.ensures.order)
 
-pub closures-requires-clause-role_ends : goal.closures-requires-clause-role_ends
-closures-requires-clause-role_ends c =
+pub ways-requires-clause-role_ends : goal.ways-requires-clause-role_ends
+ways-requires-clause-role_ends c =
     subst (EndsBelow (length (roles c.in_ok-nodes.nodes))) (sym c.deref-2.ensures.value) c.in_ok-role_edges.ensures.ends
 
-pub closures-requires-clause-basic_ends : goal.closures-requires-clause-basic_ends
-closures-requires-clause-basic_ends c =
+pub ways-requires-clause-basic_ends : goal.ways-requires-clause-basic_ends
+ways-requires-clause-basic_ends c =
     let p = c.in_ok-nodes.nodes in
     let normal = c.args.normal.now in
     subst (EndsBelow (length (basics p))) (sym c.deref-3.ensures.value) (built_basics p normal c.as_slice.result.now c.as_slice-concepts.result.now c.in_ok-role_edges.role_edges.items c.in_ok-basic_edges.basic_edges.items
-    c.deref.result.now c.as_slice.ensures c.as_slice-concepts.ensures c.deref.ensures.value c.in_ok-role_edges.ensures c.in_ok-basic_edges.ensures).ends
-
-pub turned-requires-clause-few : goal.turned-requires-clause-few
-turned-requires-clause-few c = omega (arith, basics_few c.in_ok-nodes.nodes c.in_ok-nodes.ensures.order)
-
-pub turned-requires-clause-role_ends : goal.turned-requires-clause-role_ends
-turned-requires-clause-role_ends c =
-    subst (EndsBelow (length (roles c.in_ok-nodes.nodes))) (sym c.deref-4.ensures.value) c.in_ok-role_edges.ensures.ends
-
-pub turned-requires-clause-basic_ends : goal.turned-requires-clause-basic_ends
-turned-requires-clause-basic_ends c =
-    let p = c.in_ok-nodes.nodes in
-    let normal = c.args.normal.now in
-    subst (EndsBelow (length (basics p))) (sym c.deref-5.ensures.value) (built_basics p normal c.as_slice.result.now c.as_slice-concepts.result.now c.in_ok-role_edges.role_edges.items c.in_ok-basic_edges.basic_edges.items
     c.deref.result.now c.as_slice.ensures c.as_slice-concepts.ensures c.deref.ensures.value c.in_ok-role_edges.ensures c.in_ok-basic_edges.ensures).ends
 
 pub invariant_of-result : goal.invariant_of-result
@@ -62,10 +48,9 @@ invariant_of-result c =
     let normal = c.args.normal.now in
     built p normal c.as_slice.result.now c.as_slice-concepts.result.now c.in_ok-role_edges.role_edges.items c.in_ok-basic_edges.basic_edges.items
     c.deref.result.now c.as_slice.ensures c.as_slice-concepts.ensures c.deref.ensures.value c.in_ok-role_edges.ensures c.in_ok-basic_edges.ensures
-    c.deref-2.result.now c.deref-3.result.now c.deref-2.ensures.value c.deref-3.ensures.value c.in_ok-role_closure.role_closure
-    c.in_ok-role_closure.basic_closure c.in_ok-role_closure.ensures.0 c.in_ok-role_closure.ensures.1 c.in_ok-roles.roles c.in_ok-nodes.ensures.order
-    c.in_ok-roles.ensures c.deref-4.result.now c.deref-5.result.now c.deref-4.ensures.value c.deref-5.ensures.value c.in_ok-turned_roles.turned_roles
-    c.in_ok-turned_roles.turned_basics c.in_ok-turned_roles.ensures
+    c.deref-2.result.now c.deref-3.result.now c.deref-2.ensures.value c.deref-3.ensures.value c.in_ok-role_ways.role_ways
+    c.in_ok-role_ways.basic_ways c.in_ok-role_ways.ensures.0 c.in_ok-role_ways.ensures.1 c.in_ok-roles.roles c.in_ok-nodes.ensures.order
+    c.in_ok-roles.ensures
 
 pub returns-clause-predicates : goal.returns-clause-predicates
 returns-clause-predicates c = c.in_ok-nodes.ensures.predicates
@@ -76,5 +61,5 @@ returns-clause-hierarchy c =
     let normal = c.args.normal.now in
     built_hierarchy p normal c.as_slice.result.now c.as_slice-concepts.result.now c.in_ok-role_edges.role_edges.items c.in_ok-basic_edges.basic_edges.items
     c.deref.result.now c.as_slice.ensures c.as_slice-concepts.ensures c.deref.ensures.value c.in_ok-role_edges.ensures c.in_ok-basic_edges.ensures
-    c.deref-2.result.now c.deref-3.result.now c.deref-2.ensures.value c.deref-3.ensures.value c.in_ok-role_closure.role_closure
-    c.in_ok-role_closure.basic_closure c.in_ok-role_closure.ensures.0 c.in_ok-role_closure.ensures.1
+    c.deref-2.result.now c.deref-3.result.now c.deref-2.ensures.value c.deref-3.ensures.value c.in_ok-role_ways.role_ways
+    c.in_ok-role_ways.basic_ways c.in_ok-role_ways.ensures.0 c.in_ok-role_ways.ensures.1

@@ -20,7 +20,7 @@ returns-clause-ascending c =
 pub returns-clause-known : goal.returns-clause-known
 returns-clause-known c = λ axioms of r s h.
     subst (λ l. (r ≡ s) ⊎ (Contains l r × Contains l s)) (sym (c.as_slice.ensures ∙ c.self.invariant.graphs.listed))
-    (roles_known c.self.inside.nodes c.self.inside.roles c.self.inside.role_closure c.self.inside.basic_closure c.self.invariant.graphs axioms
+    (roles_known c.self.inside.nodes c.self.inside.roles c.self.inside.role_ways.graph c.self.inside.basic_ways.graph c.self.invariant.graphs axioms
     (subst (λ h. IsHierarchyOf h axioms) (sym c.self.view_is) of) r s h)
 
 -- what is below or above "some r" as "some s" is a role of the hierarchy, or the same
@@ -40,5 +40,5 @@ some_known p list of_roles of_basics are axioms of r s h =
 pub returns-clause-known_by_concepts : goal.returns-clause-known_by_concepts
 returns-clause-known_by_concepts c = λ axioms of r s h.
     subst (λ l. (r ≡ s) ⊎ (Contains l r × Contains l s)) (sym (c.as_slice.ensures ∙ c.self.invariant.graphs.listed))
-    (some_known c.self.inside.nodes c.self.inside.roles c.self.inside.role_closure c.self.inside.basic_closure c.self.invariant.graphs axioms
+    (some_known c.self.inside.nodes c.self.inside.roles c.self.inside.role_ways.graph c.self.inside.basic_ways.graph c.self.invariant.graphs axioms
     (subst (λ h. IsHierarchyOf h axioms) (sym c.self.view_is) of) r s h)
