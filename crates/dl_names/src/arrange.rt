@@ -1,46 +1,84 @@
-// How a set of names is frozen: pairs of a text and its place are sorted, and the ranks are read off.
-ghost use Rattle.std.specs.Prelude.{◌≡◌, ◌≢◌, ℕ, ◌<◌, ◌≤◌, map, slice_index, slice_index_or, vec_len, All, AllPairs, IfOk, String};
+// How a set of names is frozen: entries of its texts are sorted, and ranks and names are read off.
+ghost use Rattle.std.specs.Prelude.{◌≡◌, ◌≢◌, ℕ, ◌<◌, ◌≤◌, map, slice_index, slice_index_or, string_bytes, vec_len, All, AllPairs, IfOk};
 ghost use Rattle.indexmap.specs.IndexSet.{index_set_len};
-ghost use Rattle.dl_names.specs.Arrange.{IsPlaced};
+ghost use Rattle.dl_names.specs.Arrange.{Entry, ArePlaced, front};
 ghost use Rattle.dl_names.specs.NameList.{max_names};
 
 use dl_terms::NoMemory;
 use indexmap::IndexSet;
-use std::alloc::Global;
 
-/// Each text with its place.
-pub(crate) fn placed(texts: IndexSet<String>) -> Result<Vec<(String, u32)>, NoMemory>
-    requires { index_set_len texts ≤ max_names }
-    ensures { IfOk result (λ pairs. IsPlaced texts.keys pairs.items) }
+/// Each text between the number of its front, by which most entries compare, and its place.
+pub(crate) fn placed(texts: &IndexSet<String>) -> Result<Vec<(u64, &str, u32)>, NoMemory>
+    requires { index_set_len texts.now ≤ max_names }
+    ensures { IfOk result (λ entries. ArePlaced texts.now.keys entries.items) }
 {
-    let alloc = *texts.allocator();
-    let count = texts.len() as u32;
-    let pairs = texts.into_iter().zip(0..count).collect(alloc)?;
-    Ok(pairs)
+    let mut entries = Vec::with_capacity(*texts.allocator(), texts.len())?;
+    for (place, text) in texts.as_slice().iter().enumerate() {
+        let text = text.as_str();
+        let entry = (front(text.as_bytes()), text, place as u32);
+        let Ok(()) = entries.push(entry) else {
+            return Err(NoMemory);
+        };
+    }
+    Ok(entries)
 }
 
-/// For each place the rank of its text: the index of its pair.
-pub(crate) fn ranks_of(pairs: &Vec<(String, u32)>) -> Result<Vec<u32>, NoMemory>
-    requires fits { vec_len pairs.now ≤ max_names }
-    requires within { All (λ pair. pair.1 < vec_len pairs.now) pairs.now.items }
-    requires distinct { AllPairs (λ one two. one.1 ≢ two.1) pairs.now.items }
-    ensures len { IfOk result (λ ranks. vec_len ranks ≡ vec_len pairs.now) }
-    ensures ranked { IfOk result (λ ranks.
-        (k : ℕ) (d : String Global × ℕ) → k < vec_len pairs.now →
-        slice_index ranks.items (slice_index_or pairs.now.items k d).1 ≡ k) }
+/// The first eight bytes as a number, the first one the highest.
+fn front(text: &[u8]) -> u64
+    ensures number { result ≡ front text.now }
+    ensures bytes { (i : ℕ) → slice_index text.now i < 256 }
 {
-    let mut ranks = vec![in *pairs.allocator(); 0u32; pairs.len()]?;
-    for (rank, pair) in pairs.iter().enumerate() {
-        ranks[pair.1 as usize] = rank as u32;
+    u64::from_be_bytes([
+        byte(text, 0),
+        byte(text, 1),
+        byte(text, 2),
+        byte(text, 3),
+        byte(text, 4),
+        byte(text, 5),
+        byte(text, 6),
+        byte(text, 7),
+    ])
+}
+
+/// The byte at an index, or 0 behind the end.
+fn byte(text: &[u8], i: usize) -> u8
+    ensures { result ≡ slice_index text.now i }
+{
+    match text.get(i) {
+        Some(byte) => *byte,
+        None => 0,
+    }
+}
+
+/// For each place the rank of its text: the index of its entry.
+pub(crate) fn ranks_of(entries: &Vec<(u64, &str, u32)>) -> Result<Vec<u32>, NoMemory>
+    requires fits { vec_len entries.now ≤ max_names }
+    requires within { All (λ entry. entry.2 < vec_len entries.now) entries.now.items }
+    requires distinct { AllPairs (λ one two. one.2 ≢ two.2) entries.now.items }
+    ensures len { IfOk result (λ ranks. vec_len ranks ≡ vec_len entries.now) }
+    ensures ranked { IfOk result (λ ranks.
+        (k : ℕ) (d : Entry) → k < vec_len entries.now →
+        slice_index ranks.items (slice_index_or entries.now.items k d).2 ≡ k) }
+{
+    let mut ranks = vec![in *entries.allocator(); 0u32; entries.len()]?;
+    for (rank, entry) in entries.iter().enumerate() {
+        ranks[entry.2 as usize] = rank as u32;
     }
     Ok(ranks)
 }
 
-/// The texts, without their places.
-pub(crate) fn texts_of(pairs: Vec<(String, u32)>) -> Result<Vec<String>, NoMemory>
-    ensures { IfOk result (λ texts. texts.items ≡ map (λ pair. pair.0) pairs.items) }
+/// The texts, in strings of their own: those that follow each other are made, and lie in memory, one after the other.
+pub(crate) fn texts_of(entries: &Vec<(u64, &str, u32)>) -> Result<Vec<String>, NoMemory>
+    ensures { IfOk result (λ texts.
+        map string_bytes texts.items ≡ map (λ entry. entry.1.now) entries.now.items) }
 {
-    let alloc = *pairs.allocator();
-    let texts = pairs.into_iter().map(|pair| pair.0).collect(alloc)?;
+    let alloc = *entries.allocator();
+    let mut texts = Vec::with_capacity(alloc, entries.len())?;
+    for entry in entries.iter() {
+        let text = String::from_str(alloc, entry.1)?;
+        let Ok(()) = texts.push(text) else {
+            return Err(NoMemory);
+        };
+    }
     Ok(texts)
 }

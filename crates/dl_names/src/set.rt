@@ -73,10 +73,10 @@ impl NameSet {
     pub fn freeze(self) -> Result<(Names, Ranks), NoMemory>
         ensures { IfOk result (λ frozen. IsFrozen self frozen.0 frozen.1) }
     {
-        let mut pairs = placed(self.texts)?;
-        pairs.sort_unstable();
-        let ranks = ranks_of(&pairs)?;
-        let texts = texts_of(pairs)?;
+        let mut entries = placed(&self.texts)?;
+        entries.sort_unstable();
+        let ranks = ranks_of(&entries)?;
+        let texts = texts_of(&entries)?;
         Ok((Names::of(texts), Ranks::of_places(ranks)))
     }
 }
