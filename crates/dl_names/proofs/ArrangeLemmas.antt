@@ -1,5 +1,5 @@
 -- How entries of texts and their places give names in order and ranks.
-use Rattle.std.proofs.Common.{◌≡◌, ◌≢◌, ℕ, ◌+◌, ◌++◌, ◌<◌, ◌≤◌, ◌⊎◌, true, false, All, Contains, nat_eq, length, map, get_or, slice_index, slice_set, slice_get, List, [], ◌∷◌, take, Some, String, Global, string_bytes, AllPairs, refl, sym, ap, subst, inl, inr, ◌∙◌, true≢false, arith, rules}
+use Rattle.std.proofs.Common.{◌≡◌, ◌≢◌, ℕ, ◌+◌, ◌++◌, ◌<◌, ◌≤◌, ◌⊎◌, true, false, All, Contains, nat_eq, length, map, get_or, slice_index, slice_set, slice_get, List, [], ◌∷◌, take, drop, Some, String, Global, string_bytes, AllPairs, refl, sym, ap, subst, inl, inr, ◌∙◌, true≢false, arith, rules}
 use borrow.Author.Tests.{eqb-true}
 use Rattle.std.specs.declared.cmp.Ordering.{Ordering}
 use Rattle.std.specs.declared.cmp.Ordering.TheVariants.{Less, Equal, Greater}
@@ -9,15 +9,15 @@ use Rattle.std.specs.Ordering.{nat_cmp, ordering_then, is_lt}
 use Rattle.std.specs.List.Sorted.{IsPermutation, IsSorted}
 use Rattle.std.proofs.lemmas.Bool.{cases_lt, false_from_ne_true}
 use Rattle.std.proofs.lemmas.Cmp.{nat_eq_equiv, nat_list_cmp_total}
-use Rattle.std.proofs.lemmas.List.{length-map, length_push, length-take-le, take_more, map-append, get_or_push, get_or_append_left, get_or-map, get_or-set_same, get_or-set_other}
+use Rattle.std.proofs.lemmas.List.{length-map, length_push, length-take-le, take_more, map-append, get_or_push, get_or_append_left, get_or-drop, get_or-map, get_or-set_same, get_or-set_other}
 use Rattle.std.proofs.lemmas.List.Elements.{All-push}
 use Rattle.std.proofs.lemmas.List.Sorted.{All-permutation, Contains-permutation, IsPermutation-map, length_permutation}
 use Rattle.std.proofs.lemmas.Map.Keys.{IsDistinct-from_apart, IsDistinct-IsPermutation, apart_from_distinct, Less-from_sorted, sorted_from_all_adjacent}
 use Rattle.std.proofs.lemmas.Option.{get_or_from_slice_get, slice_get_within, slice_get-get_or, slice_get-map, slice_get_cases}
 use Rattle.dl_names.specs.NameList.{Text, has_name, place_of, HasNoRepeats}
 use Rattle.dl_names.specs.Frozen.{text_cmp, IsBefore, IsAscending, IsFrozen}
-use Rattle.dl_names.specs.Arrange.{Entry, IsFronted, ArePlaced}
-use Rattle.dl_names.proofs.FrontLemmas.{front-before}
+use Rattle.dl_names.specs.Arrange.{Entry, IsFronted, AreAlike, ArePlaced}
+use Rattle.dl_names.proofs.FrontLemmas.{front-before, cmp-behind, take-fewer}
 use Rattle.dl_names.proofs.NameListLemmas.{same_test, same_place, place_of-lt, slice_get-place_of, has_name-slice_get}
 use Rattle.dl_names.proofs.FrozenLemmas.{IsBefore_cases}
 
@@ -47,16 +47,28 @@ RanksFirst-more entries ranks rank entry distinct at within before k d lt =
           ap (λ place. slice_index (slice_set ranks entry.2 rank) place) (ap (λ m. (get_or entries m d).2) e ∙ here) ∙ get_or-set_same ranks entry.2 rank 0 within ∙ sym e
     ]
 
+-- ---- how far texts are alike
+
+-- one more text, with which fewer bytes are alike
+pub alike-more : (strings : List (String Global)) (k : ℕ) (string : String Global) (first : Text) (old new : ℕ) → slice_get strings k ≡ Some string → new ≤ old
+    → take new first ≡ take new (string_bytes string) → All (λ s. take old (string_bytes s) ≡ take old first) (take k strings)
+    → All (λ s. take new (string_bytes s) ≡ take new first) (take (k + 1) strings)
+alike-more strings k string first old new at fewer here before =
+    let k_in = slice_get_within strings k string at in
+    let longer : take (k + 1) strings ≡ take k strings ++ string ∷ [] = take_more strings k string k_in ∙ ap (λ x. take k strings ++ x ∷ []) (get_or_from_slice_get strings k string string at) in
+    subst (All (λ s. take new (string_bytes s) ≡ take new first)) (sym longer)
+    (All-push (λ s. take new (string_bytes s) ≡ take new first) (take k strings) string (λ i d within. take-fewer new old _ _ fewer (before i d within)) (sym here))
+
 -- ---- the entries of a set
 
 -- one more entry
-pub ArePlaced-push : (strings : List (String Global)) (entries : List Entry) (k : ℕ) (string : String Global) (entry : Entry) → slice_get strings k ≡ Some string
-    → IsFronted entry → entry.1.now ≡ string_bytes string → entry.2 ≡ k → ArePlaced (take k strings) entries → ArePlaced (take (k + 1) strings) (entries ++ entry ∷ [])
-ArePlaced-push strings entries k string entry at fronted shown placed before =
+pub ArePlaced-push : (skip : ℕ) (strings : List (String Global)) (entries : List Entry) (k : ℕ) (string : String Global) (entry : Entry) → slice_get strings k ≡ Some string
+    → IsFronted skip entry → entry.1.now ≡ string_bytes string → entry.2 ≡ k → ArePlaced skip (take k strings) entries → ArePlaced skip (take (k + 1) strings) (entries ++ entry ∷ [])
+ArePlaced-push skip strings entries k string entry at fronted shown placed before =
     let k_in = slice_get_within strings k string at in
     let longer : take (k + 1) strings ≡ take k strings ++ string ∷ [] = take_more strings k string k_in ∙ ap (λ x. take k strings ++ x ∷ []) (get_or_from_slice_get strings k string string at) in
     let as_many : length entries ≡ k = before.as_many ∙ length-take-le k strings (omega (arith, k_in)) in
-    subst (λ l. ArePlaced l (entries ++ entry ∷ [])) (sym longer) (record {
+    subst (λ l. ArePlaced skip l (entries ++ entry ∷ [])) (sym longer) (record {
       as_many = omega (arith, length_push entries entry, length_push (take k strings) string, before.as_many);
       shown = map-append (λ (e : Entry). e.1.now) entries (entry ∷ []) ∙ (λ t. before.shown t ++ shown t ∷ []) ∙ sym (map-append string_bytes (take k strings) (string ∷ []));
       places = λ i d within. elim (cases_lt i (length entries)) [
@@ -65,7 +77,7 @@ ArePlaced-push strings entries k string entry at fronted shown placed before =
             let here : length entries ≡ i = omega (arith, later, within, length_push entries entry) in
             ap (λ e. e.2) (get_or_push entries entry d i here) ∙ placed ∙ sym as_many ∙ here
       ];
-      fronted = All-push IsFronted entries entry before.fronted fronted;
+      fronted = All-push (IsFronted skip) entries entry before.fronted fronted;
     })
 
 -- the entries, in whatever order: one for each place of the set, with its text
@@ -74,13 +86,16 @@ pub record AreEntriesOf (set : List Text) (entries : List Entry) : Type 0 where
   pub told : All (λ entry. slice_get set entry.2 ≡ Some entry.1.now) entries
   pub apart : IsDistinct nat_eq (map (λ entry. entry.2) entries)
   pub each : (place : ℕ) → place < length set → Contains (map (λ entry. entry.2) entries) place
-  pub fronted : All IsFronted entries
+  pub skip : ℕ
+  pub start : Text
+  pub fronted : All (IsFronted skip) entries
+  pub starts : All (λ entry. take skip entry.1.now ≡ start) entries
 
 -- the texts of the entries, in their order
 abbrev pub texts_in : List Entry → List Text
 texts_in entries = map (λ entry. entry.1.now) entries
 
-module _ (strings : List (String Global)) (entries : List Entry) (placed : ArePlaced strings entries) where
+module _ (strings : List (String Global)) (entries : List Entry) (skip : ℕ) (alike : AreAlike skip strings) (placed : ArePlaced skip strings entries) where
   place_at : (k d : ℕ) → (e : Entry) → k < length entries → get_or (map (λ entry. entry.2) entries) k d ≡ k
   place_at k d e within = get_or-map (λ entry. entry.2) entries k e d within ∙ placed.places k e within
 
@@ -99,7 +114,20 @@ module _ (strings : List (String Global)) (entries : List Entry) (placed : ArePl
     each = λ place within.
         let here : place < length entries = omega (arith, placed.as_many, length-map strings string_bytes, within) in
         (place, omega (arith, length-map entries (λ entry. entry.2), here), place_at place place (entry_in place here) here);
+    skip = skip;
+    start = alike.0;
     fronted = placed.fronted;
+    starts = λ k d within.
+        let k_in : k < length strings = omega (arith, placed.as_many, within) in
+        let here = slice_get_cases strings k in
+        elim here.1 [
+          | inl at ↦
+              let one = get_or-map (λ (entry : Entry). entry.1.now) entries k d [] within in
+              let other = get_or-map string_bytes strings k at.0 [] k_in in
+              let same : (get_or entries k d).1.now ≡ string_bytes (get_or strings k at.0) = sym one ∙ ap (λ l. get_or l k []) placed.shown ∙ other in
+              ap (take skip) same ∙ alike.1 k at.0 k_in
+          | inr past ↦ absurd (omega (arith, past.0, k_in))
+        ];
   }
     where
       entry_in : (k : ℕ) → k < length entries → Entry
@@ -112,28 +140,33 @@ AreEntriesOf-IsPermutation set entries other moved of = record {
   told = All-permutation (λ entry. slice_get set entry.2 ≡ Some (entry.1.now)) entries other moved of.told;
   apart = IsDistinct-IsPermutation nat_eq nat_eq_equiv.symm _ _ (IsPermutation-map (λ entry. entry.2) entries other moved) of.apart;
   each = λ place within. Contains-permutation _ _ place (IsPermutation-map (λ entry. entry.2) entries other moved) (of.each place within);
-  fronted = All-permutation IsFronted entries other moved of.fronted;
+  skip = of.skip;
+  start = of.start;
+  fronted = All-permutation (IsFronted of.skip) entries other moved of.fronted;
+  starts = All-permutation (λ entry. take of.skip entry.1.now ≡ of.start) entries other moved of.starts;
 }
 
 -- entries in order: by the numbers of their fronts, then by their texts, then by their places
 abbrev pub entry_cmp : Entry → Entry → Ordering
 entry_cmp x y = ordering_then (ordering_then (nat_cmp x.0 y.0) (text_cmp x.1.now y.1.now)) (nat_cmp x.2 y.2)
 
--- an entry of an earlier text has no greater number
-number-before : (p q : Entry) → IsFronted p → IsFronted q → IsBefore p.1.now q.1.now → p.0 ≤ q.0
-number-before p q p_fronted q_fronted before =
-    omega (arith, front-before p.1.now q.1.now p_fronted.bytes before, p_fronted.number, q_fronted.number)
+-- an entry of an earlier text has no greater number, where both begin alike as far as is skipped
+number-before : (skip : ℕ) (p q : Entry) → IsFronted skip p → IsFronted skip q → take skip p.1.now ≡ take skip q.1.now → IsBefore p.1.now q.1.now → p.0 ≤ q.0
+number-before skip p q p_fronted q_fronted alike before =
+    let behind = sym (cmp-behind skip p.1.now q.1.now alike) ∙ before in
+    let bytes : (i : ℕ) → get_or (drop skip p.1.now) i 0 < 256 = λ i. subst (λ b. b < 256) (sym (get_or-drop skip p.1.now i 0)) (p_fronted.bytes (skip + i)) in
+    omega (arith, front-before (drop skip p.1.now) (drop skip q.1.now) bytes behind, p_fronted.number, q_fronted.number)
 
 -- an entry whose text differs from that of the entry that is sorted after it has the text before it
-before_next : (p q : Entry) → IsFronted p → IsFronted q → (p.1.now ≡ q.1.now → ⊥) → is_lt (entry_cmp q p) ≡ false → IsBefore p.1.now q.1.now
-before_next p q p_fronted q_fronted differ in_order = by (IsBefore_cases p.1.now q.1.now)
+before_next : (skip : ℕ) (p q : Entry) → IsFronted skip p → IsFronted skip q → take skip p.1.now ≡ take skip q.1.now → (p.1.now ≡ q.1.now → ⊥) → is_lt (entry_cmp q p) ≡ false → IsBefore p.1.now q.1.now
+before_next skip p q p_fronted q_fronted alike differ in_order = by (IsBefore_cases p.1.now q.1.now)
   where
     no_after : IsBefore q.1.now p.1.now → (o : Ordering) → nat_cmp q.0 p.0 ≡ o → ⊥
     no_after after Less e = true≢false (sym (ap (λ o. is_lt (ordering_then (ordering_then o (text_cmp q.1.now p.1.now)) (nat_cmp q.2 p.2))) e) ∙ in_order)
     no_after after Equal e = true≢false (sym ((λ t. is_lt (ordering_then (ordering_then (e t) (after t)) (nat_cmp q.2 p.2)))) ∙ in_order)
     no_after after Greater e =
         let more : p.0 < q.0 = search (rules, e) in
-        omega (arith, more, number-before q p q_fronted p_fronted after)
+        omega (arith, more, number-before skip q p q_fronted p_fronted (sym alike) after)
 
     by : IsBefore p.1.now q.1.now ⊎ ((p.1.now ≡ q.1.now) ⊎ IsBefore q.1.now p.1.now) → IsBefore p.1.now q.1.now
     by (inl before) = before
@@ -217,9 +250,11 @@ module _ (set : List Text) (distinct : HasNoRepeats set) (entries : List Entry) 
           let at_p = get_or_from_slice_get entries k p p one.1 in
           let at_q = get_or_from_slice_get entries (k + 1) q p other.1 in
           let in_order : is_lt (entry_cmp q p) ≡ false = (λ t. is_lt (entry_cmp (sym at_q t) (sym at_p t))) ∙ sorted k p (omega arith) next_in in
-          let p_fronted = subst IsFronted at_p (of.fronted k p (omega arith)) in
-          let q_fronted = subst IsFronted at_q (of.fronted (k + 1) p next_in) in
-          (λ t. text_cmp (here t) (there t)) ∙ before_next p q p_fronted q_fronted (λ same. no_repeats k (k + 1) d (omega arith) k_in (here ∙ same ∙ sym there)) in_order
+          let p_fronted = subst (IsFronted of.skip) at_p (of.fronted k p (omega arith)) in
+          let q_fronted = subst (IsFronted of.skip) at_q (of.fronted (k + 1) p next_in) in
+          let starts = λ (entry : Entry). take of.skip entry.1.now ≡ of.start in
+          let alike = subst starts at_p (of.starts k p (omega arith)) ∙ sym (subst starts at_q (of.starts (k + 1) p next_in)) in
+          (λ t. text_cmp (here t) (there t)) ∙ before_next of.skip p q p_fronted q_fronted alike (λ same. no_repeats k (k + 1) d (omega arith) k_in (here ∙ same ∙ sym there)) in_order
 
   pub members : (text : Text) → has_name (texts_in entries) text ≡ has_name set text
   members text = same_test (has_name (texts_in entries) text) (has_name set text) in_set in_names

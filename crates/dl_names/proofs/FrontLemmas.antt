@@ -1,9 +1,11 @@
 -- The number of a text's first bytes grows with the text.
-use Rattle.std.proofs.Common.{◌≡◌, ℕ, suc, zero, ◌+◌, ◌*◌, ◌^◌, ◌<◌, ◌≤◌, List, [], ◌∷◌, refl, sym, ap, ◌∙◌, arith, get_or, rules}
+use Rattle.std.proofs.Common.{◌≡◌, ℕ, suc, zero, ◌+◌, ◌*◌, ◌^◌, ◌<◌, ◌≤◌, List, [], ◌∷◌, refl, sym, ap, ◌∙◌, arith, get_or, rules, take, drop}
 use Rattle.std.specs.declared.cmp.Ordering.{Ordering}
 use Rattle.std.specs.declared.cmp.Ordering.TheVariants.{Less, Equal, Greater}
 use Rattle.std.specs.Cmp.Lexicographic.{slice_cmp}
 use Rattle.std.specs.Ordering.{nat_cmp, ordering_then}
+use Rattle.std.proofs.lemmas.Cmp.{nat_cmp_total, tied_itself}
+use Rattle.std.proofs.lemmas.List.{take-take}
 use Rattle.std.proofs.Math.Nat.{mul-le-mul_left}
 use native.Mathlib.Numerals.{unary_clauses}
 use Rattle.dl_names.specs.Arrange.{front}
@@ -61,3 +63,18 @@ digits-before (suc n) (a ∷ x) (b ∷ y) fits before = by (nat_cmp a b) refl (d
 -- and so the number of its front
 pub front-before : (x y : List ℕ) → ((i : ℕ) → get_or x i 0 < 256) → slice_cmp nat_cmp x y ≡ Less → front x ≤ front y
 front-before x y fits before = let lower = digits-before 8 x y fits before in omega (arith, lower, front-digits x, front-digits y)
+
+-- texts that begin alike compare as what is behind does
+pub cmp-behind : (n : ℕ) (x y : List ℕ) → take n x ≡ take n y → slice_cmp nat_cmp x y ≡ slice_cmp nat_cmp (drop n x) (drop n y)
+cmp-behind zero x y alike = refl
+cmp-behind (suc n) [] [] alike = refl
+cmp-behind (suc n) [] (b ∷ y) alike = absurd (let no = alike in cc)
+cmp-behind (suc n) (a ∷ x) [] alike = absurd (let no = alike in cc)
+cmp-behind (suc n) (a ∷ x) (b ∷ y) alike =
+    let same : a ≡ b = ap (λ l. get_or l 0 a) alike in
+    let rest : take n x ≡ take n y = ap (drop 1) alike in
+    (λ i. ordering_then (nat_cmp a (sym same i)) (slice_cmp nat_cmp x y)) ∙ ap (λ o. ordering_then o (slice_cmp nat_cmp x y)) (tied_itself nat_cmp_total a) ∙ cmp-behind n x y rest
+
+-- fewer bytes are alike too
+pub take-fewer : (m n : ℕ) (x y : List ℕ) → m ≤ n → take n x ≡ take n y → take m x ≡ take m y
+take-fewer m n x y less alike = sym (take-take m n x less) ∙ ap (take m) alike ∙ take-take m n y less

@@ -1,53 +1,30 @@
 // How a set of names is frozen: entries of its texts are sorted, and ranks and names are read off.
 ghost use Rattle.std.specs.Prelude.{◌≡◌, ◌≢◌, ℕ, ◌<◌, ◌≤◌, map, slice_index, slice_index_or, string_bytes, vec_len, All, AllPairs, IfOk};
 ghost use Rattle.indexmap.specs.IndexSet.{index_set_len};
-ghost use Rattle.dl_names.specs.Arrange.{Entry, ArePlaced, front};
+ghost use Rattle.dl_names.specs.Arrange.{Entry, AreAlike, ArePlaced};
 ghost use Rattle.dl_names.specs.NameList.{max_names};
 
+use crate::fronts::{alike, front};
 use dl_terms::NoMemory;
 use indexmap::IndexSet;
 
-/// Each text between the number of its front, by which most entries compare, and its place.
+/// Each text between the number of its front, by which most entries compare, and its place. The front is behind
+/// what all texts begin with.
 pub(crate) fn placed(texts: &IndexSet<String>) -> Result<Vec<(u64, &str, u32)>, NoMemory>
     requires { index_set_len texts.now ≤ max_names }
-    ensures { IfOk result (λ entries. ArePlaced texts.now.keys entries.items) }
+    ensures { IfOk result (λ entries.
+        (skip : ℕ) × AreAlike skip texts.now.keys × ArePlaced skip texts.now.keys entries.items) }
 {
+    let skip = alike(texts.as_slice());
     let mut entries = Vec::with_capacity(*texts.allocator(), texts.len())?;
     for (place, text) in texts.as_slice().iter().enumerate() {
         let text = text.as_str();
-        let entry = (front(text.as_bytes()), text, place as u32);
+        let entry = (front(text.as_bytes(), skip), text, place as u32);
         let Ok(()) = entries.push(entry) else {
             return Err(NoMemory);
         };
     }
     Ok(entries)
-}
-
-/// The first eight bytes as a number, the first one the highest.
-fn front(text: &[u8]) -> u64
-    ensures number { result ≡ front text.now }
-    ensures bytes { (i : ℕ) → slice_index text.now i < 256 }
-{
-    u64::from_be_bytes([
-        byte(text, 0),
-        byte(text, 1),
-        byte(text, 2),
-        byte(text, 3),
-        byte(text, 4),
-        byte(text, 5),
-        byte(text, 6),
-        byte(text, 7),
-    ])
-}
-
-/// The byte at an index, or 0 behind the end.
-fn byte(text: &[u8], i: usize) -> u8
-    ensures { result ≡ slice_index text.now i }
-{
-    match text.get(i) {
-        Some(byte) => *byte,
-        None => 0,
-    }
 }
 
 /// For each place the rank of its text: the index of its entry.

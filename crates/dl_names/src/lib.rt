@@ -4,6 +4,7 @@
 
 mod arrange;
 mod fault;
+mod fronts;
 mod frozen;
 mod iris;
 mod set;

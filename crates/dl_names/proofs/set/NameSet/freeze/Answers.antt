@@ -5,22 +5,22 @@ use Rattle.dl_names.proofs.set.NameSet.freeze.Goals as goal
 
 pub ranks_of-requires-clause-within : goal.ranks_of-requires-clause-within
 ranks_of-requires-clause-within c =
-    let of = AreEntriesOf-IsPermutation _ _ _ c.sort_unstable.ensures.permutation (AreEntriesOf-placed _ _ c.in_ok-entries.ensures) in
+    let of = AreEntriesOf-IsPermutation _ _ _ c.sort_unstable.ensures.permutation (AreEntriesOf-placed _ _ c.in_ok-entries.ensures.0 c.in_ok-entries.ensures.1 c.in_ok-entries.ensures.2) in
     λ k d k_in. omega (arith, within_set _ c.self.invariant.0 _ of k d k_in, c.sort_unstable.new.self.ok.0)
 
 pub ranks_of-requires-clause-distinct : goal.ranks_of-requires-clause-distinct
 ranks_of-requires-clause-distinct c =
-    let of = AreEntriesOf-IsPermutation _ _ _ c.sort_unstable.ensures.permutation (AreEntriesOf-placed _ _ c.in_ok-entries.ensures) in
+    let of = AreEntriesOf-IsPermutation _ _ _ c.sort_unstable.ensures.permutation (AreEntriesOf-placed _ _ c.in_ok-entries.ensures.0 c.in_ok-entries.ensures.1 c.in_ok-entries.ensures.2) in
     distinct_places _ c.self.invariant.0 _ of
 
 pub of-requires-clause-ascending : goal.of-requires-clause-ascending
 of-requires-clause-ascending c =
-    let of = AreEntriesOf-IsPermutation _ _ _ c.sort_unstable.ensures.permutation (AreEntriesOf-placed _ _ c.in_ok-entries.ensures) in
+    let of = AreEntriesOf-IsPermutation _ _ _ c.sort_unstable.ensures.permutation (AreEntriesOf-placed _ _ c.in_ok-entries.ensures.0 c.in_ok-entries.ensures.1 c.in_ok-entries.ensures.2) in
     subst IsAscending (sym c.in_ok-texts.ensures) (ascending _ c.self.invariant.0 _ of c.sort_unstable.ensures.sorted)
 
 pub returns : goal.returns
 returns c =
-    let of = AreEntriesOf-IsPermutation _ _ _ c.sort_unstable.ensures.permutation (AreEntriesOf-placed _ _ c.in_ok-entries.ensures) in
+    let of = AreEntriesOf-IsPermutation _ _ _ c.sort_unstable.ensures.permutation (AreEntriesOf-placed _ _ c.in_ok-entries.ensures.0 c.in_ok-entries.ensures.1 c.in_ok-entries.ensures.2) in
     let entries = c.sort_unstable.new.self in
     let ranks = c.in_ok-ranks.ranks in
     let set = map string_bytes c.self.inside.texts.keys in
