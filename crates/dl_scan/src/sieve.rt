@@ -1,10 +1,10 @@
 // Names sifted by their remainders.
-ghost use Rattle.std.specs.Prelude.{◌≡◌, ℕ, true, IfOk};
-ghost use Rattle.std.specs.List.{All};
-ghost use Rattle.dl_scan.specs.Sieves.{passes};
+ghost use Rattle.std.specs.Prelude.{◌≡◌, ℕ, true, false, replicate, IfOk};
+ghost use Rattle.std.specs.List.{All, list_any};
+ghost use Rattle.dl_scan.specs.Sieves.{passes, has_remainder};
 
 use dl_terms::{List, NoMemory, Pair};
-use std::alloc::Global;
+use std::alloc::{AllocError, Global};
 use std::marker::Model;
 
 /// How many remainders are told apart.
@@ -35,11 +35,14 @@ impl Sieve {
         }
     }
 
-    /// A sieve that lets the first names of some pairs pass. It fails only for want of memory.
+    /// A sieve that lets the first names of some pairs pass, and of the others those alone that have the remainder of
+    /// one of them. It fails only for want of memory.
     pub fn of(alloc: Global, pairs: &[Pair]) -> Result<Sieve, NoMemory>
-        ensures { IfOk result (λ sieve. All (λ pair. passes sieve pair.0 ≡ true) pairs.now) }
+        ensures pass { IfOk result (λ sieve. All (λ pair. passes sieve pair.0 ≡ true) pairs.now) }
+        ensures exact { IfOk result (λ sieve. (name : ℕ) →
+            passes sieve name ≡ list_any (has_remainder name) pairs.now) }
     {
-        let mut marks = vec![in alloc; false; REMAINDERS]?;
+        let mut marks = no_marks(alloc, REMAINDERS)?;
         for pair in pairs {
             marks[pair.0 as usize % REMAINDERS] = true;
         }
@@ -57,4 +60,11 @@ impl Sieve {
             None => true,
         }
     }
+}
+
+/// So many marks, of which none is set.
+fn no_marks(alloc: Global, count: usize) -> Result<Vec<bool>, AllocError>
+    ensures { IfOk result (λ marks. marks.items ≡ replicate count false) }
+{
+    vec![in alloc; false; count]
 }

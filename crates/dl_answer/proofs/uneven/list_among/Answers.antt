@@ -12,5 +12,5 @@ returns c =
     let below = c.in_ok-below.below in
     let marks = c.in_ok-sieve.sieve in
     IfOk-weaker c.pairs_sifted.result (ArePairsSifted index below marks) (IsListAmong h index probe others)
-    (λ pairs are. listed_among h index probe below marks others pairs c.in_ok-below.ensures c.in_ok-sieve.ensures are)
+    (λ pairs are. listed_among h index probe below marks others pairs c.in_ok-below.ensures c.in_ok-sieve.ensures.pass are)
     c.pairs_sifted.ensures
