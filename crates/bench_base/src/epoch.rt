@@ -1,6 +1,5 @@
 // Epochs, built.
-ghost use Rattle.std.specs.Prelude.{◌≡◌, ◌∷◌, [], ◌<◌, ◌≤◌, length, All, Contains, IfOk};
-ghost use Rattle.std.specs.Bool.{OnTrue};
+ghost use Rattle.std.specs.Prelude.{◌≡◌, ◌∷◌, [], ◌<◌, length, All, Contains, IfOk};
 ghost use Rattle.std.specs.List.Sorted.{IsStrictlySortedBy};
 ghost use Rattle.dl_terms.specs.Fillers.{HasNoFiller};
 ghost use Rattle.dl_terms.specs.Order.{axiom_cmp};
@@ -9,14 +8,12 @@ ghost use Rattle.dl_terms.specs.Sets.{IsSetOf};
 ghost use Rattle.dl_terms.specs.declared.role.Basic.TheVariants as basic;
 ghost use Rattle.dl_terms.specs.declared.axiom.Part.TheVariants as part;
 ghost use Rattle.dl_terms.specs.declared.axiom.Axiom.TheVariants.{SubClass};
-ghost use Rattle.dl_normal.specs.Weight.{total_weight};
-ghost use Rattle.dl_epoch.specs.Known.{IsSignature, IsAxiomIn, ArePredicatesFew, max_weight};
+ghost use Rattle.dl_epoch.specs.Known.{IsAxiomIn};
 
 use crate::join::mixed;
 use crate::rows::number_of;
-use dl_epoch::Epoch;
-use dl_intervals::ascends;
-use dl_normal::{fillers, weight};
+use dl_epoch::{Epoch, fits};
+use dl_normal::weight;
 use dl_terms::{
     Axiom, Base, Basic, List, NoMemory, Part, Role, Signature, axioms_are_ordered, set_of,
 };
@@ -155,25 +152,6 @@ fn inclusions(
     Ok(axiom_set(axioms))
 }
 
-/// Whether names ascend, and axioms and names are few.
-fn are_few(alloc: Global, axioms: &[Axiom], signature: &Signature) -> bool
-    ensures names { OnTrue result (IsSignature signature.now) }
-    ensures weight { OnTrue result (total_weight axioms.now ≤ max_weight) }
-    ensures few { OnTrue result (ArePredicatesFew signature.now axioms.now) }
-{
-    let Ok(fillers) = fillers(alloc, axioms) else {
-        return false;
-    };
-    let (classes, roles) = (signature.classes.as_slice(), signature.roles.as_slice());
-    weight(axioms) <= 65536
-        && fillers <= 4096
-        && classes.len() <= 4096
-        && roles.len() <= 4096
-        && classes.len() + roles.len() + fillers as usize <= 4096
-        && ascends(classes)
-        && ascends(roles)
-}
-
 /// Builds the epoch of axioms and a signature some times. False where they are many.
 fn build(
     alloc: Global,
@@ -185,7 +163,7 @@ fn build(
     requires no_filler { All HasNoFiller axioms.now }
     requires known { All (IsAxiomIn signature.now) axioms.now }
 {
-    if !are_few(alloc, axioms, signature) {
+    if !fits(alloc, axioms, signature)? {
         return Ok(false);
     }
     for _ in 0..rounds {

@@ -1,7 +1,7 @@
 -- The fillers of a normal form are those of the pairs of role and class in the axioms, so that they are as few.
-use Rattle.std.proofs.Common.{ℕ, ◌+◌, ◌≤◌, List, [], ◌∷◌, ◌++◌, map, flat_map, filter_map, length, sym, ap, subst, ◌∙◌, inl, inr, arith}
+use Rattle.std.proofs.Common.{◌≡◌, ◌≢◌, ◌↔◌, ℕ, ◌+◌, ◌≤◌, Bool, IsTrue, List, [], ◌∷◌, ◌++◌, map, flat_map, filter_map, length, get_or, AllPairs, refl, sym, ap, subst, ◌∙◌, inl, inr, arith}
 use Rattle.std.specs.List.{All, Contains, enumerate_from}
-use Rattle.std.proofs.lemmas.List.Elements.{All-nil, All-cons, All-head, All-tail, All-append, All-map, All-weaker, All-contains, All-contains_itself, Contains-append_left, Contains-append_right}
+use Rattle.std.proofs.lemmas.List.Elements.{All-nil, All-cons, All-head, All-tail, All-append, All-map, All-weaker, All-contains, All-contains_itself, Contains-append_left, Contains-append_right, Contains-get_or}
 use Rattle.std.proofs.lemmas.List.Sums.{sum_by-cons}
 use Rattle.std.proofs.lemmas.List.{get_or-map, length-map}
 use Rattle.dl_terms.specs.Roles.{filler_of}
@@ -17,10 +17,12 @@ use Rattle.dl_terms.specs.declared.role.Negative.TheVariants.{Basics, Roles, NoL
 use Rattle.dl_terms.specs.declared.role.Normal.{Normal}
 use Rattle.dl_terms.specs.declared.axiom.Axiom.{Axiom}
 use Rattle.dl_terms.specs.declared.axiom.Signature.{Signature}
-use Rattle.dl_normal.specs.Filled.{filled_pairs, basic_bases, negative_bases, row_bases, IsOfAxioms}
+use Rattle.dl_normal.specs.Filled.{filled_pairs, basic_bases, negative_bases, row_bases, IsOfAxioms, HasDistinct}
 use Rattle.dl_normal.specs.Indexed.{IsNormalForm, indexed_negatives}
 use Rattle.dl_normal.specs.Weight.{axiom_weight, total_weight}
 use Rattle.dl_normal.proofs.FilledLemmas.{of_axioms}
+use Rattle.dl_intervals.proofs.Lists.{pigeonhole}
+use Rattle.dl_hier.specs.Predicates.{max_predicates}
 use Rattle.dl_hier.specs.Rows.{base_fillers, role_fillers, basic_fillers, negative_fillers, normal_fillers, AreFew}
 use Rattle.dl_epoch.specs.Known.{ArePredicatesFew}
 use Rattle.dl_epoch.proofs.KnownLemmas.{All-flat_map}
@@ -123,6 +125,34 @@ are_few s axioms normal plain few is =
       each = all_in axioms (map filler_name set) (map_has filler_name (filled_pairs axioms) set (λ p c. (few.distinct.members p).1 c)) plain normal is;
       few = (let n = length-map set filler_name in let m = few.distinct.as_many in let f = few.few in omega (arith, n, m, f));
     }
+
+-- different items that all are in a list are no more than it has
+no_more : {A : Type 0} (xs ys : List A) → AllPairs (λ x y. x ≢ y) xs → ((x : A) → Contains xs x → Contains ys x)
+    → length xs ≤ length ys
+no_more xs ys apart inside =
+    pigeonhole (λ x y. x ≡ y) xs ys
+    (λ k d h.
+    let there = inside (get_or xs k d) (Contains-get_or xs k d h) in (there.0, get_or xs k d, there.1, there.2, refl))
+    (λ i j d lt h y same also. apart i j d lt h (same ∙ sym also))
+
+-- the different items of a list have one count
+pub one_count : {A : Type 0} (items : List A) (n m : ℕ) → HasDistinct items n → HasDistinct items m → n ≡ m
+one_count items n m one two =
+    let few = no_more one.set two.set one.each_once (λ x c. (two.members x).1 ((one.members x).0 c)) in
+    let also = no_more two.set one.set two.each_once (λ x c. (one.members x).1 ((two.members x).0 c)) in
+    omega (arith, few, also, one.as_many, two.as_many)
+
+-- few, where the count of the fillers makes it so
+pub few_told : (s : Signature) (axioms : List Axiom) (fillers : ℕ) → HasDistinct (filled_pairs axioms) fillers
+    → (answer : Bool) → IsTrue answer ↔ (length s.classes + length s.roles + fillers ≤ max_predicates)
+    → IsTrue answer ↔ ArePredicatesFew s axioms
+few_told s axioms fillers distinct answer says = (
+  λ h. record { fillers = fillers; distinct = distinct; few = says.0 h },
+  λ h.
+      let same = one_count (filled_pairs axioms) fillers h.fillers distinct h.distinct in
+      let few = h.few in
+      says.1 (omega (arith, same, few)),
+)
 
 -- axioms are no more than they weigh
 pub length_weight : (axioms : List Axiom) → length axioms ≤ total_weight axioms

@@ -6,9 +6,11 @@ mod copy;
 mod entry;
 mod epoch;
 mod epochs;
+mod fit;
 mod numbers;
 
 pub use entry::Entry;
 pub use epoch::Epoch;
 pub use epochs::Epochs;
+pub use fit::{MAX_WEIGHT, fits};
 pub use numbers::Ranges;

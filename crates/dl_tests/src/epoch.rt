@@ -1,22 +1,18 @@
 // Epochs of small ontologies: their numbers, names of one as numbers of another, and which of them covers a version.
-ghost use Rattle.std.specs.Prelude.{◌≡◌, ◌∷◌, [], ◌≤◌, length, All, IfOk};
+ghost use Rattle.std.specs.Prelude.{◌≡◌, ◌∷◌, [], length, All, IfOk};
 ghost use Rattle.std.specs.Arc.{arc_value};
-ghost use Rattle.std.specs.Bool.{OnTrue};
 ghost use Rattle.std.specs.List.Sorted.{IsStrictlySortedBy};
 ghost use Rattle.dl_terms.specs.Fillers.{HasNoFiller};
 ghost use Rattle.dl_terms.specs.Order.{axiom_cmp};
 ghost use Rattle.dl_terms.specs.declared.role.Basic.TheVariants as basic;
 ghost use Rattle.dl_terms.specs.declared.axiom.Part.TheVariants as part;
 ghost use Rattle.dl_terms.specs.declared.axiom.Axiom.TheVariants.{SubClass};
-ghost use Rattle.dl_normal.specs.Weight.{total_weight};
-ghost use Rattle.dl_epoch.specs.Known.{IsSignature, IsAxiomIn, ArePredicatesFew, max_weight};
+ghost use Rattle.dl_epoch.specs.Known.{IsAxiomIn};
 
 use crate::axioms::list_of;
 use crate::intervals::are;
-use dl_epoch::{Entry, Epoch, Epochs, Ranges};
+use dl_epoch::{Entry, Epoch, Epochs, Ranges, fits};
 use dl_hier::Below;
-use dl_intervals::ascends;
-use dl_normal::{fillers, weight};
 use dl_terms::{Axiom, Basic, List, NoMemory, Part, Signature};
 use std::alloc::{AllocError, Global};
 use std::sync::Arc;
@@ -58,25 +54,7 @@ fn inclusion(alloc: Global, sub: u32, sup: u32) -> Result<Axiom, AllocError>
     })
 }
 
-/// Whether names ascend, and axioms and names are few.
-fn are_few(alloc: Global, axioms: &[Axiom], signature: &Signature) -> bool
-    ensures names { OnTrue result (IsSignature signature.now) }
-    ensures weight { OnTrue result (total_weight axioms.now ≤ max_weight) }
-    ensures few { OnTrue result (ArePredicatesFew signature.now axioms.now) }
-{
-    let Ok(fillers) = fillers(alloc, axioms) else {
-        return false;
-    };
-    let (classes, roles) = (signature.classes.as_slice(), signature.roles.as_slice());
-    weight(axioms) <= 9
-        && fillers <= 9
-        && classes.len() <= 9
-        && roles.len() <= 9
-        && ascends(classes)
-        && ascends(roles)
-}
-
-/// The epoch of axioms and a signature; none where they aren't few.
+/// The epoch of axioms and a signature; none where they don't fit.
 fn epoch_of(
     alloc: Global,
     id: u32,
@@ -87,7 +65,7 @@ fn epoch_of(
     requires no_filler { All HasNoFiller axioms.now }
     requires known { All (IsAxiomIn signature.now) axioms.now }
 {
-    if !are_few(alloc, axioms, signature) {
+    if !fits(alloc, axioms, signature)? {
         return Ok(None);
     }
     Ok(Some(Epoch::build(alloc, id, axioms, signature)?))
