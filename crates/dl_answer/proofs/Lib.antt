@@ -10,3 +10,4 @@ pub mod UnionLemmas
 pub mod KeptLemmas
 pub mod BrokenLemmas
 pub mod SiftedLemmas
+pub mod SearchLemmas

@@ -26,6 +26,7 @@ use Rattle.dl_rewrite.specs.Shape.{IsShapedFor}
 use Rattle.dl_answer.specs.Facts.{HasPredicate}
 use Rattle.dl_answer.specs.Probes.{AreBehind}
 use Rattle.dl_answer.specs.Replies.{GivesTuples}
+use Rattle.dl_answer.specs.Searches.{FindsTuples}
 use Rattle.dl_answer.specs.declared.index.FactRows.{FactRows}
 use Rattle.dl_answer.proofs.StepLemmas.{exactly_same, over_more}
 use Rattle.dl_answer.proofs.TupleLemmas.{exactly_none}
@@ -94,6 +95,20 @@ one_given axioms facts ds d limit result single is =
 pub shaped_at : (q : Query) (ds : List Disjunct) → All (IsShapedFor q) ds → (i : ℕ) (d : Disjunct) → i < length ds
     → d ≡ get_or ds i d → IsShapedFor q d
 shaped_at q ds shaped i d inside is = subst (IsShapedFor q) (sym is) (shaped i d inside)
+
+-- what a search for the tuples of the only disjunct finds
+pub finds_one : (h : Hierarchy) (index : FactRows) (q : Query) (ds : List Disjunct) (d : Disjunct) (limit : ℕ)
+    (result : Result Table JoinFault) → All (IsShapedFor q) ds → length ds ≡ 1 → d ≡ get_or ds 0 d
+    → FindsTuples (AreBehind h index) (λ axioms facts. HasOverNames axioms facts d) (length d.head) limit result
+    → FindsTuples (AreBehind h index) (λ axioms facts. SomeHasOverNames axioms facts ds) (length q.head) limit result
+finds_one h index q ds d limit result shaped single is finds = record {
+  ascending = finds.ascending;
+  width =
+      subst (λ n. IfOk result (λ table. table.width ≡ n))
+      (shaped_at q ds shaped 0 d (omega (arith, single)) is).head finds.width;
+  within = finds.within;
+  tuples = λ axioms facts behind. one_given axioms facts ds d limit result single is (finds.tuples axioms facts behind);
+}
 
 -- what all disjuncts are, those of a part are
 pub part_shaped : (q : Query) (ds part : List Disjunct) → ((d : Disjunct) → Contains part d → Contains ds d)

@@ -6,3 +6,4 @@ pub mod Probes
 pub mod Kept
 pub mod Verdicts
 pub mod Sifted
+pub mod Searches

@@ -11,6 +11,7 @@ ghost use Rattle.dl_rewrite.specs.Shape.{IsShapedFor};
 ghost use Rattle.dl_answer.specs.Probes.{AreBehind};
 ghost use Rattle.dl_answer.specs.Kept.{AreKept};
 ghost use Rattle.dl_answer.specs.Replies.{GivesTuples};
+ghost use Rattle.dl_answer.specs.Searches.{FindsTuples};
 
 use crate::index::FactRows;
 use crate::probes::tuples_of;
@@ -56,11 +57,8 @@ fn united(
     requires shaped { All (IsShapedFor query.now) disjuncts.now }
     requires kept { AreKept hier.now facts.now kept.old }
     ensures kept { AreKept hier.now facts.now kept.new }
-    ensures ascending { IfOk result (λ tuples. AscendStrictly tuples.tuples) }
-    ensures width { IfOk result (λ tuples. tuples.width ≡ length query.now.head) }
-    ensures within { IfOk result (λ tuples. length tuples.tuples ≤ limit) }
-    ensures tuples { (axioms : Items Axiom) (known : Items Fact) → AreBehind hier.now facts.now axioms known →
-        GivesTuples (SomeHasOverNames axioms known disjuncts.now) limit result }
+    ensures found { FindsTuples (AreBehind hier.now facts.now)
+        (λ axioms known. SomeHasOverNames axioms known disjuncts.now) (length query.now.head) limit result }
 {
     if disjuncts.len() < 2 {
         return of_first(alloc, hier, facts, query, disjuncts, kept, limit);
@@ -86,11 +84,8 @@ fn of_first(
     requires one { length disjuncts.now < 2 }
     requires kept { AreKept hier.now facts.now kept.old }
     ensures kept { AreKept hier.now facts.now kept.new }
-    ensures ascending { IfOk result (λ tuples. AscendStrictly tuples.tuples) }
-    ensures width { IfOk result (λ tuples. tuples.width ≡ length query.now.head) }
-    ensures within { IfOk result (λ tuples. length tuples.tuples ≤ limit) }
-    ensures tuples { (axioms : Items Axiom) (known : Items Fact) → AreBehind hier.now facts.now axioms known →
-        GivesTuples (SomeHasOverNames axioms known disjuncts.now) limit result }
+    ensures found { FindsTuples (AreBehind hier.now facts.now)
+        (λ axioms known. SomeHasOverNames axioms known disjuncts.now) (length query.now.head) limit result }
 {
     if disjuncts.len() == 0 {
         return Ok(Tuples::new(alloc, query.head.len() as u32));

@@ -2,18 +2,15 @@
 ghost use Rattle.std.specs.Prelude.{◌≡◌, ◌<◌, ◌≤◌, ◌^◌, ◌⊎◌, ◌↔◌, List as Items, [], length, IfOk, IsTrue};
 ghost use Rattle.std.specs.List.{Any};
 ghost use Rattle.dl_terms.specs.Roles.{named};
-ghost use Rattle.dl_terms.specs.Answers.{AscendStrictly};
 ghost use Rattle.dl_terms.specs.declared.axiom.Axiom.{Axiom};
-ghost use Rattle.dl_terms.specs.declared.axiom.Fact.{Fact};
-ghost use Rattle.dl_hier.specs.Hierarchy.{Hierarchy, IsHierarchyOf};
+ghost use Rattle.dl_hier.specs.Hierarchy.{IsHierarchyOf};
 ghost use Rattle.dl_join.specs.Disjuncts.{IsSafe, AreSorted};
 ghost use Rattle.dl_rewrite.specs.OverNames.{HasOverNames};
 ghost use Rattle.dl_answer.specs.OverNames.{AreBelow};
 ghost use Rattle.dl_answer.specs.Probes.{AreBelowProbe, AreBehind, IsListOf};
 ghost use Rattle.dl_answer.specs.Kept.{AreKept, AreFirst};
 ghost use Rattle.dl_answer.specs.Sifted.{AreOfOneTerm};
-ghost use Rattle.dl_answer.specs.declared.index.FactRows.{FactRows};
-ghost use Rattle.dl_answer.specs.Replies.{GivesTuples};
+ghost use Rattle.dl_answer.specs.Searches.{FindsTuples, AreBehindFirst};
 
 use crate::index::FactRows;
 use crate::kept::{copy_of, earlier, keep_all};
@@ -40,11 +37,8 @@ pub(crate) fn tuples_of(
     requires width { length disjunct.now.head < 2 ^ 32 }
     requires kept { AreKept hier.now facts.now kept.old }
     ensures kept { AreKept hier.now facts.now kept.new }
-    ensures ascending { IfOk result (λ tuples. AscendStrictly tuples.tuples) }
-    ensures width { IfOk result (λ tuples. tuples.width ≡ length disjunct.now.head) }
-    ensures within { IfOk result (λ tuples. length tuples.tuples ≤ limit) }
-    ensures tuples { (axioms : Items Axiom) (known : Items Fact) → AreBehind hier.now facts.now axioms known →
-        GivesTuples (HasOverNames axioms known disjunct.now) limit result }
+    ensures found { FindsTuples (AreBehind hier.now facts.now)
+        (λ axioms known. HasOverNames axioms known disjunct.now) (length disjunct.now.head) limit result }
 {
     match which_has_fewer(alloc, hier, facts, disjunct.probes.as_slice(), kept)? {
         Some(first) => tuples_by_fewer(alloc, hier, facts, disjunct, first, kept, limit),
@@ -68,11 +62,8 @@ fn tuples_by_fewer(
     requires width { length disjunct.now.head < 2 ^ 32 }
     requires kept { AreKept hier.now facts.now kept.old }
     ensures kept { AreKept hier.now facts.now kept.new }
-    ensures ascending { IfOk result (λ tuples. AscendStrictly tuples.tuples) }
-    ensures width { IfOk result (λ tuples. tuples.width ≡ length disjunct.now.head) }
-    ensures within { IfOk result (λ tuples. length tuples.tuples ≤ limit) }
-    ensures tuples { (axioms : Items Axiom) (known : Items Fact) → AreBehind hier.now facts.now axioms known →
-        GivesTuples (HasOverNames axioms known disjunct.now) limit result }
+    ensures found { FindsTuples (AreBehind hier.now facts.now)
+        (λ axioms known. HasOverNames axioms known disjunct.now) (length disjunct.now.head) limit result }
 {
     let probes = disjunct.probes.as_slice();
     let lists = lists_by_fewer(alloc, hier, facts, probes, first, kept)?;
@@ -93,11 +84,8 @@ fn tuples_by_all(
     requires width { length disjunct.now.head < 2 ^ 32 }
     requires kept { AreKept hier.now facts.now kept.old }
     ensures kept { AreKept hier.now facts.now kept.new }
-    ensures ascending { IfOk result (λ tuples. AscendStrictly tuples.tuples) }
-    ensures width { IfOk result (λ tuples. tuples.width ≡ length disjunct.now.head) }
-    ensures within { IfOk result (λ tuples. length tuples.tuples ≤ limit) }
-    ensures tuples { (axioms : Items Axiom) (known : Items Fact) → AreBehind hier.now facts.now axioms known →
-        GivesTuples (HasOverNames axioms known disjunct.now) limit result }
+    ensures found { FindsTuples (AreBehind hier.now facts.now)
+        (λ axioms known. HasOverNames axioms known disjunct.now) (length disjunct.now.head) limit result }
 {
     let probes = disjunct.probes.as_slice();
     let lists = lists_of(alloc, hier, facts, probes, kept)?;
@@ -119,12 +107,8 @@ fn tuples_over(
     requires few { length lists.now ≤ length disjunct.now.probes }
     requires whole { Any (λ pairs. pairs ≡ []) lists.now ⊎ (length lists.now ≡ length disjunct.now.probes) }
     requires sorted { AreSorted lists.now }
-    ensures ascending { IfOk result (λ tuples. AscendStrictly tuples.tuples) }
-    ensures width { IfOk result (λ tuples. tuples.width ≡ length disjunct.now.head) }
-    ensures within { IfOk result (λ tuples. length tuples.tuples ≤ limit) }
-    ensures tuples { (h : Hierarchy) (index : FactRows) → AreFirst h index disjunct.now.probes lists.now →
-        (axioms : Items Axiom) (known : Items Fact) → AreBehind h index axioms known →
-        GivesTuples (HasOverNames axioms known disjunct.now) limit result }
+    ensures { FindsTuples (AreBehindFirst disjunct.now.probes lists.now)
+        (λ axioms known. HasOverNames axioms known disjunct.now) (length disjunct.now.head) limit result }
 {
     if some_is_empty(lists) {
         return Ok(Tuples::new(alloc, disjunct.head.len() as u32));

@@ -104,45 +104,34 @@ pub(crate) fn lists_by_fewer(
     ensures lists { IfOk result (AreTogether hier.now facts.now probes.now) }
 {
     match fewer {
-        Fewer::First => lists_by_first(alloc, hier, facts, probes, kept),
-        Fewer::Second => lists_by_second(alloc, hier, facts, probes, kept),
+        Fewer::First => {
+            let (few, many) = few_and_many(alloc, hier, facts, &probes[0], &probes[1], kept)?;
+            two_lists(alloc, few, many)
+        }
+        Fewer::Second => {
+            let (few, many) = few_and_many(alloc, hier, facts, &probes[1], &probes[0], kept)?;
+            two_lists(alloc, many, few)
+        }
     }
 }
 
-/// Such lists where the first probe has fewer pairs.
-fn lists_by_first(
+/// The list of the pairs of a probe, and of those of another one what is needed beside it.
+fn few_and_many(
     alloc: Global,
     hier: &Hier,
     facts: &FactRows,
-    probes: &[Probe],
+    probe: &Probe,
+    other: &Probe,
     kept: &mut KeptLists,
-) -> Result<List<List<Pair>>, NoMemory>
-    requires one_term { AreOfOneTerm probes.now }
+) -> Result<(List<Pair>, List<Pair>), NoMemory>
     requires kept { AreKept hier.now facts.now kept.old }
     ensures kept { AreKept hier.now facts.now kept.new }
-    ensures lists { IfOk result (AreTogether hier.now facts.now probes.now) }
+    ensures few { IfOk result (λ lists. IsListOf hier.now facts.now probe.now lists.0) }
+    ensures many { IfOk result (λ lists. IsListAmong hier.now facts.now other.now lists.0 lists.1) }
 {
-    let few = list_kept(alloc, hier, facts, &probes[0], kept)?;
-    let many = list_among(alloc, hier, facts, &probes[1], few.as_slice())?;
-    two_lists(alloc, few, many)
-}
-
-/// Such lists where the second probe has fewer pairs.
-fn lists_by_second(
-    alloc: Global,
-    hier: &Hier,
-    facts: &FactRows,
-    probes: &[Probe],
-    kept: &mut KeptLists,
-) -> Result<List<List<Pair>>, NoMemory>
-    requires one_term { AreOfOneTerm probes.now }
-    requires kept { AreKept hier.now facts.now kept.old }
-    ensures kept { AreKept hier.now facts.now kept.new }
-    ensures lists { IfOk result (AreTogether hier.now facts.now probes.now) }
-{
-    let few = list_kept(alloc, hier, facts, &probes[1], kept)?;
-    let many = list_among(alloc, hier, facts, &probes[0], few.as_slice())?;
-    two_lists(alloc, many, few)
+    let few = list_kept(alloc, hier, facts, probe, kept)?;
+    let many = list_among(alloc, hier, facts, other, few.as_slice())?;
+    Ok((few, many))
 }
 
 /// The sorted list of the pairs of a probe, of which a copy is kept.

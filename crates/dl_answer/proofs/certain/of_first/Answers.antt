@@ -1,17 +1,17 @@
-use Rattle.std.proofs.Common.{◌≡◌, ◌<◌, length, sym, subst, arith}
-use Rattle.dl_terms.specs.Answers.{AscendStrictly}
-use Rattle.dl_join.specs.Tuples.{tuple_cmp}
-use Rattle.dl_join.proofs.MergeLemmas.{sorted_nil}
-use Rattle.dl_answer.proofs.UnionLemmas.{none_given, one_given, shaped_at}
+use Rattle.std.proofs.Common.{◌≡◌, ◌∙◌, ◌<◌, length, arith}
+use Rattle.dl_rewrite.specs.OverNames.{SomeHasOverNames}
+use Rattle.dl_answer.specs.Probes.{AreBehind}
+use Rattle.dl_answer.proofs.UnionLemmas.{none_given, finds_one, shaped_at}
+use Rattle.dl_answer.proofs.SearchLemmas.{finds_none}
 use Rattle.dl_answer.proofs.certain.of_first.Goals as goal
 
-pub returns-then-disjuncts-eq0-clause-ascending : goal.returns-then-disjuncts-eq0-clause-ascending
-returns-then-disjuncts-eq0-clause-ascending c = subst AscendStrictly (sym c.new.ensures.none) (sorted_nil tuple_cmp)
-
-pub returns-then-disjuncts-eq0-clause-tuples : goal.returns-then-disjuncts-eq0-clause-tuples
-returns-then-disjuncts-eq0-clause-tuples c = λ axioms known behind.
-    let nothing : length c.args.disjuncts.now ≡ 0 = omega (arith, c.if-disjuncts-eq0.true) in
-    none_given axioms known c.args.disjuncts.now c.args.limit c.new.result nothing c.new.ensures.none
+pub returns-then-disjuncts-eq0-clause-found : goal.returns-then-disjuncts-eq0-clause-found
+returns-then-disjuncts-eq0-clause-found c =
+    let ds = c.args.disjuncts.now in
+    let nothing : length ds ≡ 0 = omega (arith, c.if-disjuncts-eq0.true) in
+    finds_none (AreBehind c.args.hier.now c.args.facts.now) (λ axioms known. SomeHasOverNames axioms known ds)
+    (length c.args.query.now.head) c.args.limit c.new.result c.new.ensures.none (c.new.ensures.width ∙ c.len.ensures)
+    (λ axioms known behind. none_given axioms known ds c.args.limit c.new.result nothing c.new.ensures.none)
 
 pub tuples_of-requires-clause-safe : goal.tuples_of-requires-clause-safe
 tuples_of-requires-clause-safe c =
@@ -19,8 +19,8 @@ tuples_of-requires-clause-safe c =
     (shaped_at c.args.query.now c.args.disjuncts.now c.requires.shaped 0 c.index-disjuncts-0.result some
     c.index-disjuncts-0.is).safe
 
-pub returns-clause-tuples : goal.returns-clause-tuples
-returns-clause-tuples c = λ axioms known behind.
+pub returns-clause-found : goal.returns-clause-found
+returns-clause-found c =
     let single : length c.args.disjuncts.now ≡ 1 = omega (arith, c.if-disjuncts-eq0.false, c.requires.one) in
-    one_given axioms known c.args.disjuncts.now c.index-disjuncts-0.result c.args.limit c.tuples_of.result single
-    c.index-disjuncts-0.is (c.tuples_of.ensures.tuples axioms known behind)
+    finds_one c.args.hier.now c.args.facts.now c.args.query.now c.args.disjuncts.now c.index-disjuncts-0.result
+    c.args.limit c.tuples_of.result c.requires.shaped single c.index-disjuncts-0.is c.tuples_of.ensures.found

@@ -1,36 +1,36 @@
-use Rattle.std.proofs.Common.{sym, subst}
-use Rattle.std.proofs.lemmas.Result.{IfOk-weaker}
-use Rattle.dl_terms.specs.Answers.{AscendStrictly}
+use Rattle.std.proofs.Common.{◌∙◌, length}
 use Rattle.dl_join.specs.Disjuncts.{IsTuple}
-use Rattle.dl_join.specs.Tuples.{AreExactly, tuple_cmp}
-use Rattle.dl_join.proofs.MergeLemmas.{sorted_nil}
+use Rattle.dl_rewrite.specs.OverNames.{HasOverNames}
+use Rattle.dl_answer.specs.Searches.{AreBehindFirst}
 use Rattle.dl_answer.proofs.StepLemmas.{gives_tuples}
 use Rattle.dl_answer.proofs.KeptLemmas.{some_empty, lists_whole, empty_gives, all_listed}
+use Rattle.dl_answer.proofs.SearchLemmas.{finds_none, finds_exactly}
 use Rattle.dl_answer.proofs.probes.tuples_over.Goals as goal
 
-pub returns-then-some_is_empty-clause-ascending : goal.returns-then-some_is_empty-clause-ascending
-returns-then-some_is_empty-clause-ascending c = subst AscendStrictly (sym c.new.ensures.none) (sorted_nil tuple_cmp)
-
-pub returns-then-some_is_empty-clause-tuples : goal.returns-then-some_is_empty-clause-tuples
-returns-then-some_is_empty-clause-tuples c = λ h index first.
-    empty_gives h index c.args.disjunct.now c.args.limit c.new.result
-    (some_empty h index c.args.disjunct.now.probes c.args.lists.now first
-    (c.some_is_empty.ensures.0 c.if-some_is_empty.true) c.requires.few) c.new.ensures.none
+pub returns-then-some_is_empty : goal.returns-then-some_is_empty
+returns-then-some_is_empty c =
+    let d = c.args.disjunct.now in
+    finds_none (AreBehindFirst d.probes c.args.lists.now) (λ axioms facts. HasOverNames axioms facts d)
+    (length d.head) c.args.limit c.new.result c.new.ensures.none (c.new.ensures.width ∙ c.len.ensures)
+    (λ axioms facts are.
+    empty_gives are.hierarchy are.index d c.args.limit c.new.result
+    (some_empty are.hierarchy are.index d.probes c.args.lists.now are.first
+    (c.some_is_empty.ensures.0 c.if-some_is_empty.true) c.requires.few) c.new.ensures.none axioms facts are.behind)
 
 pub join-requires-clause-lists : goal.join-requires-clause-lists
 join-requires-clause-lists c =
     all_listed c.some_is_empty.result c.args.lists.now c.args.disjunct.now.probes c.if-some_is_empty.false
     c.some_is_empty.ensures c.requires.whole
 
-pub returns-clause-ascending : goal.returns-clause-ascending
-returns-clause-ascending c =
-    IfOk-weaker c.join.result (λ t. AreExactly (IsTuple c.args.disjunct.now c.args.lists.now) t.tuples)
-    (λ t. AscendStrictly t.tuples) (λ t is. is.ascending) c.join.ensures.tuples
-
-pub returns-clause-tuples : goal.returns-clause-tuples
-returns-clause-tuples c = λ h index first.
-    gives_tuples h index c.args.disjunct.now c.args.lists.now c.args.limit c.join.result
-    (lists_whole h index c.args.disjunct.now.probes c.args.lists.now first
-    (all_listed c.some_is_empty.result c.args.lists.now c.args.disjunct.now.probes c.if-some_is_empty.false
-    c.some_is_empty.ensures c.requires.whole))
-    c.requires.variables c.requires.safe c.join.ensures.tuples c.join.ensures.within c.join.ensures.many
+pub returns : goal.returns
+returns c =
+    let d = c.args.disjunct.now in
+    let lists = c.args.lists.now in
+    finds_exactly (AreBehindFirst d.probes lists) (λ axioms facts. HasOverNames axioms facts d)
+    (length d.head) c.args.limit c.join.result (IsTuple d lists) c.join.ensures.tuples c.join.ensures.width c.join.ensures.within
+    (λ axioms facts are.
+    gives_tuples are.hierarchy are.index d lists c.args.limit c.join.result
+    (lists_whole are.hierarchy are.index d.probes lists are.first
+    (all_listed c.some_is_empty.result lists d.probes c.if-some_is_empty.false c.some_is_empty.ensures c.requires.whole))
+    c.requires.variables c.requires.safe c.join.ensures.tuples c.join.ensures.within c.join.ensures.many axioms facts
+    are.behind)
