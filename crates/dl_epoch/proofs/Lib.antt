@@ -3,3 +3,4 @@ pub mod FewLemmas
 pub mod EpochLemmas
 pub mod FrozenLemmas
 pub mod CoveringLemmas
+pub mod PredicateLemmas

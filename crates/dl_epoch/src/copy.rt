@@ -11,7 +11,7 @@ fn copied_items<T: Copy + Drop>(alloc: Global, items: &List<T>) -> Result<List<T
     Ok(List::of(Vec::from_slice(alloc, items.as_slice())?))
 }
 
-/// The same axioms.
+/// The same axioms. It fails only for want of memory.
 pub fn copied_axioms(alloc: Global, axioms: &[Axiom]) -> Result<List<Axiom>, NoMemory>
     ensures { IfOk result (λ copy. copy ≡ axioms.now) }
 {
@@ -31,8 +31,8 @@ pub fn copied_signature(alloc: Global, signature: &Signature) -> Result<Signatur
     Ok(Signature { classes, roles })
 }
 
-/// The same axiom.
-fn copied_axiom(alloc: Global, axiom: &Axiom) -> Result<Axiom, NoMemory>
+/// The same axiom. It fails only for want of memory.
+pub fn copied_axiom(alloc: Global, axiom: &Axiom) -> Result<Axiom, NoMemory>
     ensures { IfOk result (λ copy. copy ≡ «axiom».now) }
 {
     match axiom {
