@@ -22,7 +22,7 @@ pub fn copied_axioms(alloc: Global, axioms: &[Axiom]) -> Result<List<Axiom>, NoM
     Ok(copy)
 }
 
-/// The same signature.
+/// The same signature. It fails only for want of memory.
 pub fn copied_signature(alloc: Global, signature: &Signature) -> Result<Signature, NoMemory>
     ensures { IfOk result (λ copy. copy ≡ signature.now) }
 {

@@ -10,7 +10,7 @@ mod fit;
 mod numbers;
 mod predicates;
 
-pub use copy::{copied_axiom, copied_axioms};
+pub use copy::{copied_axiom, copied_axioms, copied_signature};
 pub use entry::Entry;
 pub use epoch::Epoch;
 pub use epochs::Epochs;

@@ -1,5 +1,5 @@
 // The predicates that terms use, gathered one after the other.
-ghost use Rattle.std.specs.Prelude.{◌≡◌, ◌++◌, OnOk};
+ghost use Rattle.std.specs.Prelude.{◌≡◌, ◌++◌, OnOk, OnErr};
 ghost use Rattle.std.specs.List.{flat_map};
 ghost use Rattle.dl_epoch.specs.Predicates.{basic_classes, part_classes, axiom_classes, role_properties, basic_properties, part_properties, axiom_properties, fact_classes, fact_properties};
 
@@ -9,6 +9,7 @@ use dl_terms::{Axiom, Base, Basic, Fact, NoMemory, Part, Role, Signature};
 pub fn push_fact(signature: &mut Signature, fact: Fact) -> Result<(), NoMemory>
     ensures classes { OnOk result (signature.new.classes ≡ signature.old.classes ++ fact_classes fact) }
     ensures roles { OnOk result (signature.new.roles ≡ signature.old.roles ++ fact_properties fact) }
+    ensures err { OnErr result (signature.new ≡ signature.old) }
 {
     match fact {
         Fact::Is { class, .. } => signature.classes.push(class),
@@ -75,8 +76,10 @@ fn push_role_and_parts(
 }
 
 fn push_basics(signature: &mut Signature, basics: &[Basic]) -> Result<(), NoMemory>
-    ensures classes { OnOk result (signature.new.classes ≡ signature.old.classes ++ flat_map basic_classes basics.now) }
-    ensures roles { OnOk result (signature.new.roles ≡ signature.old.roles ++ flat_map basic_properties basics.now) }
+    ensures classes { OnOk result (signature.new.classes ≡
+        signature.old.classes ++ flat_map basic_classes basics.now) }
+    ensures roles { OnOk result (signature.new.roles ≡
+        signature.old.roles ++ flat_map basic_properties basics.now) }
 {
     for basic in basics {
         push_basic(signature, *basic)?;
