@@ -34,7 +34,8 @@ use Rattle.dl_run.specs.Input.{Load, IsNumberOf, AreRead, AreInput}
 use Rattle.dl_query.specs.Queries.{IsValue as IsQueryValue}
 use Rattle.dl_query.proofs.ResultLemmas.{value-one}
 use Rattle.dl_run.specs.Asked.{load_of, IsNumbered}
-use Rattle.dl_run.specs.Signature.{axiom_classes, axiom_properties, fact_classes, fact_properties, IsSignatureOf}
+use Rattle.dl_epoch.specs.Predicates.{axiom_classes, axiom_properties, fact_classes, fact_properties}
+use Rattle.dl_run.specs.Signature.{IsSignatureOf}
 use Rattle.dl_run.specs.declared.answer.Asked.{Asked}
 use Rattle.dl_triples.specs.declared.reading.Triples.{Triples}
 use Rattle.dl_hier.proofs.MemberLemmas.{Contains-map}

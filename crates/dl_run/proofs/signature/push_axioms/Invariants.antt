@@ -1,6 +1,6 @@
 use Rattle.std.proofs.Common.{◌≡◌, ◌++◌, take}
 use Rattle.std.specs.List.{flat_map}
-use Rattle.dl_run.specs.Signature.{axiom_classes, axiom_properties}
+use Rattle.dl_epoch.specs.Predicates.{axiom_classes, axiom_properties}
 use Rattle.dl_run.proofs.signature.push_axioms.Given as goal
 
 abbrev pub invariant-loop-stated : goal.invariant-loop-stated

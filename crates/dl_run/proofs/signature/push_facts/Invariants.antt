@@ -1,6 +1,6 @@
 use Rattle.std.proofs.Common.{◌≡◌, ◌++◌, take}
 use Rattle.std.specs.List.{flat_map}
-use Rattle.dl_run.specs.Signature.{fact_classes, fact_properties}
+use Rattle.dl_epoch.specs.Predicates.{fact_classes, fact_properties}
 use Rattle.dl_run.proofs.signature.push_facts.Given as goal
 
 abbrev pub invariant-loop-fact : goal.invariant-loop-fact

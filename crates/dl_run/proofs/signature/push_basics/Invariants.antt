@@ -1,9 +1,0 @@
-use Rattle.std.proofs.Common.{◌≡◌, ◌++◌, take}
-use Rattle.std.specs.List.{flat_map}
-use Rattle.dl_run.specs.Signature.{basic_classes, basic_properties}
-use Rattle.dl_run.proofs.signature.push_basics.Given as goal
-
-abbrev pub invariant-loop-basic : goal.invariant-loop-basic
-invariant-loop-basic l =
-    (l.signature.classes ≡ l.fn.signature.classes ++ flat_map basic_classes (take l.basic-index l.basics))
-    × (l.signature.roles ≡ l.fn.signature.roles ++ flat_map basic_properties (take l.basic-index l.basics))
