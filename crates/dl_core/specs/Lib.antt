@@ -1,0 +1,7 @@
+pub mod Sets
+pub mod Names
+pub mod Edits
+pub mod History
+pub mod Root
+pub mod Next
+pub mod Legal
