@@ -5,6 +5,7 @@
 mod book;
 mod event;
 mod fault;
+pub mod laws;
 mod reply;
 
 pub use book::{Book, Pin};

@@ -1,0 +1,89 @@
+-- The facts of the rows that are visible at a version, as a set.
+use Rattle.std.proofs.Common.{◌≡◌, ℕ, ◌+◌, ◌≤◌, ◌⊎◌, Bool, true, false, ◌&&◌, ◌||◌, cond, ◌==◌, List, [], ◌∷◌, filter, filter_map, All, Contains, Option, Some, None, refl, sym, ap, ◌∙◌, inl, inr, true≢false, arith}
+use Rattle.std.specs.List.{cons_option}
+use Rattle.std.specs.Ordering.{is_eq}
+use Rattle.dl_terms.specs.Order.{fact_cmp}
+use Rattle.dl_terms.specs.declared.axiom.Fact.{Fact}
+use Rattle.dl_terms.specs.declared.axiom.Signature.{Signature}
+use Rattle.dl_terms.proofs.OrderLemmas.{facts_linear}
+use Rattle.dl_terms.proofs.MemberLemmas.{Contains-cons, Contains-nil, All-Contains}
+use Rattle.dl_row.specs.Lists.{count}
+use Rattle.dl_core.specs.Sets.{has, IsOnce}
+use Rattle.dl_row.specs.Rows.{Epoch, fact_of, is_fact, visible, rows_for}
+use Rattle.dl_core.specs.Root.{RowsSay, IsNumbered, IsPart, AreKnown}
+use Rattle.dl_core.specs.Next.{visible_facts}
+use Rattle.dl_row.specs.declared.row.Row.{Row}
+use Rattle.dl_core.proofs.CountLemmas.{both}
+use Rattle.dl_row.proofs.CountLemmas.{same_itself, count_there}
+use Rattle.dl_core.proofs.SetLemmas.{has-with_items, once-with_items, once-nil, has_by_count}
+use Rattle.dl_core.proofs.CommitLemmas.{is_fact-is}
+use Rattle.dl_core.proofs.EpochLemmas.{row_epoch, find_is}
+use Rattle.dl_core.proofs.EditLemmas.{knows_more}
+
+-- what is there counts
+pub there_counts : {A : Type 0} (p : A → Bool) (xs : List A) (x : A) → Contains xs x → p x ≡ true → 1 ≤ count p xs
+there_counts p [] x c e = absurd (Contains-nil x c)
+there_counts {A} p (y ∷ xs) x c e = by (Contains-cons y x xs c) (there_counts p xs x)
+  where
+    here : (b : Bool) → b ≡ true → 1 ≤ cond b 1 0 + count p xs
+    here true e = omega arith
+    here false e = absurd (true≢false (sym e))
+
+    by : (y ≡ x) ⊎ Contains xs x → (Contains xs x → p x ≡ true → 1 ≤ count p xs) → 1 ≤ cond (p y) 1 0 + count p xs
+    by (inl same) ih = here (p y) (ap p same ∙ e)
+    by (inr later) ih = let h = ih later e in omega (arith, h)
+
+-- the facts of the visible rows, as often as rows stand for them
+pub count_facts : (es : List Epoch) (rows : List Row) (v : ℕ) (f : Fact)
+    → count (λ g. is_eq (fact_cmp f g)) (filter_map (fact_of es) (filter (visible v) rows)) ≡ rows_for es rows v f
+count_facts es [] v f = refl
+count_facts es (r ∷ rows) v f = by (visible v r) (count_facts es rows v f)
+  where
+    more : (o : Option Fact) (n : ℕ) → count (λ g. is_eq (fact_cmp f g)) (filter_map (fact_of es) (filter (visible v) rows)) ≡ n
+        → count (λ g. is_eq (fact_cmp f g)) (cons_option o (filter_map (fact_of es) (filter (visible v) rows))) ≡ cond (is_fact f o) 1 0 + n
+    more None n ih = omega (arith, ih)
+    more (Some g) n ih = ap (λ m. cond (is_eq (fact_cmp f g)) 1 0 + m) ih
+
+    by : (b : Bool) → count (λ g. is_eq (fact_cmp f g)) (filter_map (fact_of es) (filter (visible v) rows)) ≡ rows_for es rows v f
+        → count (λ g. is_eq (fact_cmp f g)) (filter_map (fact_of es) (cond b (r ∷ filter (visible v) rows) (filter (visible v) rows)))
+        ≡ cond (b && is_fact f (fact_of es r)) 1 0 + rows_for es rows v f
+    by true ih = more (fact_of es r) (rows_for es rows v f) ih
+    by false ih = omega (arith, ih)
+
+or_none : (b : Bool) → (b || false) ≡ b
+or_none true = refl
+or_none false = refl
+
+-- the set of the visible facts is what the rows say
+pub visible_are : (es : List Epoch) (rows : List Row) (v : ℕ) (facts : List Fact) → RowsSay es rows v facts
+    → (f : Fact) → has fact_cmp (visible_facts es rows v) f ≡ has fact_cmp facts f
+visible_are es rows v facts says f =
+    has-with_items facts_linear (filter_map (fact_of es) (filter (visible v) rows)) [] f
+    ∙ or_none (has fact_cmp (filter_map (fact_of es) (filter (visible v) rows)) f)
+    ∙ has_by_count fact_cmp (filter_map (fact_of es) (filter (visible v) rows)) f (has fact_cmp facts f) (count_facts es rows v f ∙ says f)
+
+pub visible_once : (es : List Epoch) (rows : List Row) (v : ℕ) → IsOnce fact_cmp (visible_facts es rows v)
+visible_once es rows v = once-with_items facts_linear (filter_map (fact_of es) (filter (visible v) rows)) [] once-nil
+
+pub visible_say : (es : List Epoch) (rows : List Row) (v : ℕ) (facts : List Fact) → RowsSay es rows v facts → RowsSay es rows v (visible_facts es rows v)
+visible_say es rows v facts says f = says f ∙ ap (λ b. cond b 1 0) (sym (visible_are es rows v facts says f))
+
+-- each is known to the current signature
+pub visible_known : (es : List Epoch) (rows : List Row) (v : ℕ) (facts : List Fact) (s : Signature) → RowsSay es rows v facts → All IsNumbered es
+    → All (λ e. IsPart e.signature s) es → AreKnown s facts
+visible_known es rows v facts s says numbered parts f h =
+    let n = says f ∙ ap (λ b. cond b 1 0) h in
+    let r = count_there (λ r. visible v r && is_fact f (fact_of es r)) rows (omega (arith, n)) in
+    let e = row_epoch es r.0 f (is_fact-is f (fact_of es r.0) (both (visible v r.0) (is_fact f (fact_of es r.0)) r.2).1) in
+    let found = find_is (λ d. d.id == r.0.epoch) es e.0 e.1 in
+    knows_more e.0.signature s (All-Contains (λ d. IsPart d.signature s) es e.0 parts found.1) f (e.2 (All-Contains IsNumbered es e.0 numbered found.1))
+
+-- an item that is in a list is one that it has
+pub has_there : (facts : List Fact) (f : Fact) → Contains facts f → has fact_cmp facts f ≡ true
+has_there [] f c = absurd (Contains-nil f c)
+has_there (g ∷ facts) f c = by (is_eq (fact_cmp f g)) refl (Contains-cons g f facts c) (has_there facts f)
+  where
+    by : (b : Bool) → is_eq (fact_cmp f g) ≡ b → (g ≡ f) ⊎ Contains facts f → (Contains facts f → has fact_cmp facts f ≡ true) → (b || has fact_cmp facts f) ≡ true
+    by true e c ih = refl
+    by false e (inl same) ih = absurd (true≢false (sym (same_itself facts_linear f) ∙ ap (λ z. is_eq (fact_cmp f z)) (sym same) ∙ e))
+    by false e (inr later) ih = ih later

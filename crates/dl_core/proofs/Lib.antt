@@ -1,0 +1,14 @@
+pub mod CountLemmas
+pub mod SetLemmas
+pub mod OrderedLemmas
+pub mod EditLemmas
+pub mod EpochLemmas
+pub mod CommitLemmas
+pub mod FactLemmas
+pub mod HistoryLemmas
+pub mod PinLemmas
+pub mod CommitKeepLemmas
+pub mod RunLemmas
+pub mod ReadLemmas
+pub mod ShardLemmas
+pub mod OpenLemmas
