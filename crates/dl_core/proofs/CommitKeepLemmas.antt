@@ -10,7 +10,7 @@ use Rattle.dl_terms.specs.declared.axiom.Axiom.{Axiom}
 use Rattle.dl_terms.specs.declared.axiom.Fact.{Fact}
 use Rattle.dl_terms.specs.declared.axiom.Fact.TheVariants.{Is, Link}
 use Rattle.dl_terms.specs.declared.axiom.Signature.{Signature}
-use Rattle.dl_terms.proofs.OrderLemmas.{axioms_linear, numbers_linear, lists_linear}
+use Rattle.dl_terms.proofs.OrderLemmas.{axioms_linear, facts_linear, numbers_linear, lists_linear}
 use Rattle.dl_terms.proofs.MemberLemmas.{All-Contains}
 use Rattle.dl_core.specs.Sets.{has, IsOnce}
 use Rattle.dl_normal.specs.Weight.{total_weight}
@@ -27,7 +27,8 @@ use Rattle.dl_row.specs.declared.row.Row.{Row}
 use Rattle.dl_core.specs.declared.event.Edit.{Edit}
 use Rattle.dl_core.proofs.CountLemmas.{both, one_or_none}
 use Rattle.dl_row.proofs.CountLemmas.{same_is}
-use Rattle.dl_core.proofs.FactLemmas.{has_there, visible_are, visible_once, visible_say, visible_known}
+use Rattle.dl_core.proofs.SetLemmas.{has_there}
+use Rattle.dl_core.proofs.FactLemmas.{visible_are, visible_once, visible_say, visible_known}
 use Rattle.dl_core.proofs.EditLemmas.{edited_facts_same, edited_facts_once, edited_signature_grows, edited_signature_once, edited_known, part_itself, part_trans}
 use Rattle.dl_core.proofs.CommitLemmas.{le_true, le_false, committed_say, committed_keep}
 use Rattle.dl_row.specs.Laws.{row_total}
@@ -46,20 +47,20 @@ record Grown (root : Root) (axioms : List Axiom) (signature : Signature) (older 
   pub before : (v : ℕ) → v ≤ root.version → covering (older ++ current ∷ []) v ≡ covering (epochs root) v
 
 -- why a commit isn't refused
-record IsWithin (root : Root) (edits : List Edit) : Type 0 where
+pub record IsWithin (root : Root) (edits : List Edit) : Type 0 where
   pub weights : total_weight (edited_axioms edits root.current.axioms) ≤ max_weight
   pub predicates : predicates (edited_axioms edits root.current.axioms) (edited_signature edits root.current.signature) ≤ max_predicates
   pub epochs : opens root edits ≡ true → length (epochs root) < max_epochs
   pub rows : length root.rows + length (new_facts (root_facts root) (edited_facts edits (root_facts root))) ≤ max_rows
 
-not_this : {A : Type 0} (b : Bool) (x : A) (o : Option A) → cond b (Some x) o ≡ None → (b ≡ false) × (o ≡ None)
+pub not_this : {A : Type 0} (b : Bool) (x : A) (o : Option A) → cond b (Some x) o ≡ None → (b ≡ false) × (o ≡ None)
 not_this true x o e = absurd (some_none (sym e))
 not_this false x o e = (refl, e)
 
-not_over : (a b : ℕ) → nat_lt a b ≡ false → b ≤ a
+pub not_over : (a b : ℕ) → nat_lt a b ≡ false → b ≤ a
 not_over a b h = grind (arith, nat_tests)
 
-not_refused : (root : Root) (edits : List Edit) → commit_refused root edits ≡ None → IsWithin root edits
+pub not_refused : (root : Root) (edits : List Edit) → commit_refused root edits ≡ None → IsWithin root edits
 not_refused root edits e =
     let axioms = edited_axioms edits root.current.axioms in
     let signature = edited_signature edits root.current.signature in
@@ -299,7 +300,7 @@ committed_keeps numbering l history root edits e numbers ready not_r is no_pin s
     stand_one f c =
         row_for_stands es' current (root.version + 1) f (last_is_found (committed_older root edits) current g.are.ids)
         (current_numbered (committed_older root edits) current (root.version + 1) g.are)
-        (ap (λ z. knows z f) g.signature_is ∙ after_known f (has_there after f c))
+        (ap (λ z. knows z f) g.signature_is ∙ after_known f (has_there facts_linear after f c))
 
     stand : All (λ f. fact_of es' (row_for current (root.version + 1) f) ≡ Some f) after
     stand k d h = stand_one _ (All-contains_itself after k d h)

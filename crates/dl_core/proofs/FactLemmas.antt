@@ -14,7 +14,7 @@ use Rattle.dl_core.specs.Root.{RowsSay, IsNumbered, IsPart, AreKnown}
 use Rattle.dl_core.specs.Next.{visible_facts}
 use Rattle.dl_row.specs.declared.row.Row.{Row}
 use Rattle.dl_core.proofs.CountLemmas.{both}
-use Rattle.dl_row.proofs.CountLemmas.{same_itself, count_there}
+use Rattle.dl_row.proofs.CountLemmas.{count_there}
 use Rattle.dl_core.proofs.SetLemmas.{has-with_items, once-with_items, once-nil, has_by_count}
 use Rattle.dl_core.proofs.CommitLemmas.{is_fact-is}
 use Rattle.dl_core.proofs.EpochLemmas.{row_epoch, find_is}
@@ -77,13 +77,3 @@ visible_known es rows v facts s says numbered parts f h =
     let e = row_epoch es r.0 f (is_fact-is f (fact_of es r.0) (both (visible v r.0) (is_fact f (fact_of es r.0)) r.2).1) in
     let found = find_is (λ d. d.id == r.0.epoch) es e.0 e.1 in
     knows_more e.0.signature s (All-Contains (λ d. IsPart d.signature s) es e.0 parts found.1) f (e.2 (All-Contains IsNumbered es e.0 numbered found.1))
-
--- an item that is in a list is one that it has
-pub has_there : (facts : List Fact) (f : Fact) → Contains facts f → has fact_cmp facts f ≡ true
-has_there [] f c = absurd (Contains-nil f c)
-has_there (g ∷ facts) f c = by (is_eq (fact_cmp f g)) refl (Contains-cons g f facts c) (has_there facts f)
-  where
-    by : (b : Bool) → is_eq (fact_cmp f g) ≡ b → (g ≡ f) ⊎ Contains facts f → (Contains facts f → has fact_cmp facts f ≡ true) → (b || has fact_cmp facts f) ≡ true
-    by true e c ih = refl
-    by false e (inl same) ih = absurd (true≢false (sym (same_itself facts_linear f) ∙ ap (λ z. is_eq (fact_cmp f z)) (sym same) ∙ e))
-    by false e (inr later) ih = ih later

@@ -10,5 +10,9 @@ pub mod PinLemmas
 pub mod CommitKeepLemmas
 pub mod RunLemmas
 pub mod ReadLemmas
+pub mod AscendLemmas
+pub mod FewLemmas
+pub mod KnownLemmas
+pub mod RuleLemmas
 pub mod ShardLemmas
 pub mod OpenLemmas

@@ -5,6 +5,7 @@ use Rattle.std.proofs.lemmas.List.{length-map, take-append-le}
 use Rattle.std.proofs.lemmas.List.Elements.{All-nil, All-push, All-map, filter_map-append, All-contains_itself}
 use Rattle.dl_terms.specs.Order.{fact_cmp}
 use Rattle.dl_terms.specs.declared.axiom.Fact.{Fact}
+use Rattle.dl_terms.proofs.OrderLemmas.{facts_linear}
 use Rattle.dl_terms.proofs.MemberLemmas.{Contains-nil}
 use Rattle.dl_normal.specs.Weight.{total_weight}
 use Rattle.dl_core.specs.Names.{predicates}
@@ -30,7 +31,7 @@ use Rattle.dl_row.specs.Laws.{row_total}
 use Rattle.dl_core.proofs.OrderedLemmas.{All-ordered}
 use Rattle.dl_row.proofs.OrderedLemmas.{ordered-ascends, length-ordered}
 use Rattle.dl_core.proofs.EpochLemmas.{row_for_stands}
-use Rattle.dl_core.proofs.FactLemmas.{has_there}
+use Rattle.dl_core.proofs.SetLemmas.{has_there}
 use Rattle.dl_core.proofs.PinLemmas.{silent_keeps, pinned_keeps, unpinned_keeps}
 use Rattle.dl_core.proofs.CommitKeepLemmas.{committed_keeps, new_row}
 
@@ -77,7 +78,7 @@ loaded_stands numbering l numbers is = record {
     numbered = numbers 1 1 l.axioms l.signature is.signature
 
     stand : (g : Fact) → Contains l.facts g → fact_of (e ∷ []) (row_for e 1 g) ≡ Some g
-    stand g c = row_for_stands (e ∷ []) e 1 g refl numbered (is.known g (has_there l.facts g c))
+    stand g c = row_for_stands (e ∷ []) e 1 g refl numbered (is.known g (has_there facts_linear l.facts g c))
 
     row_one : (g : Fact) → Contains l.facts g → IsRowAt (e ∷ []) 1 (row_for e 1 g)
     row_one g c = new_row (e ∷ []) e 1 g (stand g c) (omega arith)

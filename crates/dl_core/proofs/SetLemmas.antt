@@ -1,11 +1,13 @@
 -- Sets as lists: what they have after an item is added or removed.
-use Rattle.std.proofs.Common.{◌≡◌, ℕ, ◌+◌, ◌≤◌, Bool, true, false, ◌&&◌, ◌||◌, cond, List, [], ◌∷◌, filter, refl, sym, ap, ◌∙◌, true≢false, arith}
+use Rattle.std.proofs.Common.{◌≡◌, ◌⊎◌, inl, inr, Contains, ℕ, ◌+◌, ◌≤◌, Bool, true, false, ◌&&◌, ◌||◌, cond, List, [], ◌∷◌, filter, refl, sym, ap, ◌∙◌, true≢false, arith}
 use Rattle.std.specs.declared.cmp.Ordering.{Ordering}
 use Rattle.std.specs.Ordering.{is_eq, is_gt}
 use Rattle.dl_terms.proofs.OrderLemmas.{IsLinear}
 use Rattle.dl_row.specs.Lists.{count, put}
 use Rattle.dl_core.specs.Sets.{has, with_item, with_items, IsOnce}
-use Rattle.dl_row.proofs.CountLemmas.{count-put, same_is}
+use Rattle.std.proofs.lemmas.Map.Views.{Contains-from_any}
+use Rattle.dl_terms.proofs.MemberLemmas.{Contains-cons, Contains-nil}
+use Rattle.dl_row.proofs.CountLemmas.{same_itself, count-put, same_is}
 use Rattle.dl_core.proofs.CountLemmas.{count-filter_le, has_count, has_not}
 
 swap : (a b c : Bool) → (a || (b || c)) ≡ (b || (a || c))
@@ -104,3 +106,18 @@ has_by_count {A} cmp xs y b e = by (has cmp xs y) b refl e (has_count cmp xs y) 
     by true false e c some none = let h = ap {B = ℕ} (λ b. cond b 1 0) e in absurd (omega (arith, h, c, some))
     by false true e c some none = let h = none e in absurd (omega (arith, h, c))
     by false false e c some none = refl
+
+-- ---- what a list has is in it
+
+module _ {A : Type 0} {cmp : A → A → Ordering} (l : IsLinear cmp) where
+  pub has_there : (xs : List A) (x : A) → Contains xs x → has cmp xs x ≡ true
+  has_there [] x c = absurd (Contains-nil x c)
+  has_there (y ∷ xs) x c = by (is_eq (cmp x y)) refl (Contains-cons y x xs c) (has_there xs x)
+    where
+      by : (b : Bool) → is_eq (cmp x y) ≡ b → (y ≡ x) ⊎ Contains xs x → (Contains xs x → has cmp xs x ≡ true) → (b || has cmp xs x) ≡ true
+      by true e c ih = refl
+      by false e (inl same) ih = absurd (true≢false (sym (same_itself l x) ∙ ap (λ z. is_eq (cmp x z)) (sym same) ∙ e))
+      by false e (inr later) ih = ih later
+
+  pub there_has : (xs : List A) (x : A) → has cmp xs x ≡ true → Contains xs x
+  there_has xs x h = Contains-from_any {eq = λ y z. is_eq (cmp y z)} (same_is l) x xs h

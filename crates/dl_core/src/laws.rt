@@ -1,8 +1,7 @@
 //! Laws of roots and histories.
 ghost use Rattle.std.specs.Prelude.{◌≡◌, ℕ, ◌+◌, ◌<◌, ◌≤◌, true, List, [], ◌∷◌, ◌++◌, Some, map};
 ghost use Rattle.std.specs.List.{All, Contains, filter, flat_map, slice_index_or as get_or};
-ghost use Rattle.std.specs.List.Sorted.{IsStrictlySortedBy, IsPermutation, IsSorted};
-ghost use Rattle.dl_terms.specs.Order.{fact_cmp, axiom_cmp};
+ghost use Rattle.dl_terms.specs.Order.{fact_cmp};
 ghost use Rattle.dl_terms.specs.declared.axiom.Fact.{Fact};
 ghost use Rattle.dl_row.specs.Lists.{Ascends, ordered};
 ghost use Rattle.dl_row.specs.Rows.{Epoch, fact_of, rows_for, row_cmp, epoch_of, open_end};
