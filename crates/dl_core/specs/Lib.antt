@@ -5,3 +5,4 @@ pub mod History
 pub mod Root
 pub mod Next
 pub mod Legal
+pub mod Examples

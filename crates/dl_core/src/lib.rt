@@ -7,6 +7,7 @@ mod event;
 mod fault;
 pub mod laws;
 mod reply;
+pub mod worked_examples;
 
 pub use book::{Book, Pin};
 pub use event::{Edit, Event, Item};

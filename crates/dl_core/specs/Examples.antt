@@ -1,0 +1,108 @@
+-- The loads and events of the worked examples. Numbers stand for names, in the order of their bytes.
+use Rattle.std.specs.Prelude.{ℕ, true, false, List, [], ◌∷◌}
+use Rattle.dl_terms.specs.declared.role.Basic.TheVariants as basic
+use Rattle.dl_terms.specs.declared.axiom.Part.TheVariants as part
+use Rattle.dl_terms.specs.declared.axiom.Axiom.{Axiom}
+use Rattle.dl_terms.specs.declared.axiom.Axiom.TheVariants.{SubClass}
+use Rattle.dl_terms.specs.declared.axiom.Fact.TheVariants.{Is}
+use Rattle.dl_row.specs.Rows.{open_end}
+use Rattle.dl_row.specs.declared.row.Row.{Row}
+use Rattle.dl_row.specs.declared.row.Kind.TheVariants as kind
+use Rattle.dl_core.specs.History.{Load}
+use Rattle.dl_core.specs.Root.{Root}
+use Rattle.dl_core.specs.Next.{Numbering, next, epoch_from}
+use Rattle.dl_core.specs.declared.event.Item.TheVariants as item
+use Rattle.dl_core.specs.declared.event.Edit.{Edit}
+use Rattle.dl_core.specs.declared.event.Event.{Event}
+use Rattle.dl_core.specs.declared.event.Event.TheVariants.{Commit, Pin, Unpin, Look}
+use Rattle.dl_core.specs.declared.reply.Reply.{Reply}
+
+-- numbers in name order
+abbrev pub by_name : Numbering
+by_name kind.Class axioms signature = signature.classes
+by_name kind.Role axioms signature = signature.roles
+
+-- the replies to some events of stream 1
+abbrev pub replies : Root → List Event → List Reply
+replies root [] = []
+replies root (e ∷ events) = (next by_name root 1 e).1 ∷ replies (next by_name root 1 e).0 events
+
+-- the classes A and B, and the individual a
+abbrev pub class_a : ℕ
+class_a = 0
+
+abbrev pub class_b : ℕ
+class_b = 1
+
+abbrev pub name_a : ℕ
+name_a = 2
+
+-- SubClassOf(A B)
+abbrev pub a_below_b : Axiom
+a_below_b = SubClass (basic.Class class_a) (part.Class class_b ∷ [])
+
+-- SubClassOf(A B), with A(a)
+abbrev pub a_is_an_a : Load
+a_is_an_a =
+    record {
+      axioms = a_below_b ∷ [];
+      signature = record { classes = class_a ∷ class_b ∷ []; roles = [] };
+      facts = Is class_a name_a ∷ [];
+      shards = 1;
+    }
+
+-- no axioms, and A(a)
+abbrev pub only_a_fact : Load
+only_a_fact =
+    record {
+      axioms = [];
+      signature = record { classes = class_a ∷ []; roles = [] };
+      facts = Is class_a name_a ∷ [];
+      shards = 1;
+    }
+
+abbrev pub remove_axiom : Edit
+remove_axiom = record { add = false; item = item.Axiom a_below_b }
+
+abbrev pub add_a : Edit
+add_a = record { add = true; item = item.Fact (Is class_a name_a) }
+
+abbrev pub remove_a : Edit
+remove_a = record { add = false; item = item.Fact (Is class_a name_a) }
+
+-- a pin, a commit that removes the axiom, and the pin anew
+abbrev pub pin_again : List Event
+pin_again = Pin ∷ Commit (remove_axiom ∷ []) ∷ Unpin ∷ Pin ∷ []
+
+-- a fact removed and added in one commit, and in two
+abbrev pub remove_and_add : List Event
+remove_and_add = Commit (remove_a ∷ add_a ∷ []) ∷ Look 10 ∷ Commit (remove_a ∷ []) ∷ Commit (add_a ∷ []) ∷ Look 10 ∷ []
+
+-- events that are refused, and one that isn't
+abbrev pub refused_events : List Event
+refused_events = Unpin ∷ Pin ∷ Pin ∷ []
+
+-- the row of A(a), from a version on
+abbrev pub row_of_a : ℕ → Row
+row_of_a first =
+    record {
+      kind = kind.Class;
+      number = 1;
+      epoch = 1;
+      s = name_a;
+      o = name_a;
+      first = first;
+      last = open_end;
+    }
+
+-- a root that has the row of A(a) twice
+abbrev pub twice_a : Root
+twice_a =
+    record {
+      version = 1;
+      older = [];
+      current = epoch_from by_name 1 1 [] only_a_fact.signature;
+      pins = [];
+      shards = 1;
+      rows = row_of_a 1 ∷ row_of_a 1 ∷ [];
+    }
