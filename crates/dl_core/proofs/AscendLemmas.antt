@@ -18,6 +18,7 @@ use Rattle.dl_core.specs.Sets.{has, with_item, with_items, IsOnce}
 use Rattle.dl_core.specs.Names.{item_classes, item_properties}
 use Rattle.dl_core.specs.Edits.{axioms_with, edited_axioms, signature_with, edited_signature}
 use Rattle.dl_core.specs.History.{Load, Entry, commits_to, after_commits, axioms_at}
+use Rattle.dl_core.specs.Root.{HasEachOnce}
 use Rattle.dl_core.specs.declared.event.Edit.{Edit}
 use Rattle.dl_core.specs.declared.event.Item.{Item}
 use Rattle.dl_core.specs.declared.event.Item.TheVariants as item
@@ -83,6 +84,10 @@ module _ {A : Type 0} {cmp : A → A → Ordering} (l : IsLinear cmp) where
   set_of : (xs : List A) → IsStrictlySortedBy cmp xs → IsSet cmp xs
   set_of xs s = record { up = sorted_up l xs s; once = record { at_most = sorted_count l xs s } }
 
+  -- a list that ascends strictly has each item once
+  pub sorted-once : (xs : List A) → IsStrictlySortedBy cmp xs → IsOnce cmp xs
+  sorted-once xs s = (set_of xs s).once
+
   sorted_of : (xs : List A) → IsSet cmp xs → IsStrictlySortedBy cmp xs
   sorted_of xs is = strictly_sorted l xs is.up is.once
 
@@ -129,6 +134,13 @@ axioms_ascend l history v s = by (commits_to history v) l.axioms s
     by (edits ∷ cs) xs s = by cs (edited_axioms edits xs) (edited_axioms-sorted edits xs s)
 
 -- ---- signatures
+
+-- a signature whose lists ascend strictly has each name once
+pub signature-once : (s : Signature) → IsSignature s → HasEachOnce s
+signature-once s is = record {
+  classes = sorted-once numbers_linear s.classes (sorted_from_strictly_increasing s.classes is.classes);
+  roles = sorted-once numbers_linear s.roles (sorted_from_strictly_increasing s.roles is.roles);
+}
 
 -- after edits the lists of a signature ascend strictly, as before
 pub edited_signature-sorted : (edits : List Edit) (s : Signature) → IsSignature s → IsSignature (edited_signature edits s)

@@ -11,7 +11,7 @@ use Rattle.dl_terms.specs.declared.axiom.Fact.{Fact}
 use Rattle.dl_terms.specs.declared.axiom.Fact.TheVariants.{Is, Link}
 use Rattle.dl_terms.specs.declared.axiom.Signature.{Signature}
 use Rattle.dl_terms.proofs.OrderLemmas.{axioms_linear, facts_linear, numbers_linear, lists_linear}
-use Rattle.dl_terms.proofs.MemberLemmas.{All-Contains}
+use Rattle.dl_terms.proofs.MemberLemmas.{both_true, All-Contains}
 use Rattle.dl_core.specs.Sets.{has, IsOnce}
 use Rattle.dl_normal.specs.Weight.{total_weight}
 use Rattle.dl_core.specs.Names.{predicates}
@@ -25,7 +25,7 @@ use Rattle.dl_row.specs.Shards.{max_rows}
 use Rattle.dl_core.specs.Next.{Numbering, IsNumbering, IsReady, epoch_from, row_for, same_signature, opens, root_facts, ended, ended_at, is_among, new_facts, committed_epoch, committed_older, committed_rows, committed, commit_refused}
 use Rattle.dl_row.specs.declared.row.Row.{Row}
 use Rattle.dl_core.specs.declared.event.Edit.{Edit}
-use Rattle.dl_core.proofs.CountLemmas.{both, one_or_none}
+use Rattle.dl_core.proofs.CountLemmas.{one_or_none}
 use Rattle.dl_row.proofs.CountLemmas.{same_is}
 use Rattle.dl_core.proofs.SetLemmas.{has_there}
 use Rattle.dl_core.proofs.FactLemmas.{visible_are, visible_once, visible_say, visible_known}
@@ -89,8 +89,8 @@ stays : (root : Root) (edits : List Edit) → opens root edits ≡ false → Are
 stays root edits h are =
     let old = root.current.signature in
     let new = edited_signature edits old in
-    let same = both (is_eq (slice_cmp axiom_cmp root.current.axioms (edited_axioms edits root.current.axioms))) (same_signature old new) (not_false _ h) in
-    let names = both (is_eq (slice_cmp nat_cmp old.classes new.classes)) (is_eq (slice_cmp nat_cmp old.roles new.roles)) same.1 in record {
+    let same = both_true (is_eq (slice_cmp axiom_cmp root.current.axioms (edited_axioms edits root.current.axioms))) (same_signature old new) (not_false _ h) in
+    let names = both_true (is_eq (slice_cmp nat_cmp old.classes new.classes)) (is_eq (slice_cmp nat_cmp old.roles new.roles)) same.1 in record {
       are = record {
         numbered = are.numbered;
         parts = are.parts;

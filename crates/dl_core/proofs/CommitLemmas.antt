@@ -39,12 +39,6 @@ eq_false a b h = grind (arith, nat_tests)
 pub is_equal : (a b : ℕ) → (a == b) ≡ true → a ≡ b
 is_equal a b h = grind (arith, nat_tests)
 
-pub is_le : (a b : ℕ) → nat_le a b ≡ true → a ≤ b
-is_le a b h = grind (arith, nat_tests)
-
-pub not_le : (a b : ℕ) → nat_le a b ≡ false → b < a
-not_le a b h = grind (arith, nat_tests)
-
 -- ---- facts of rows
 
 pub is_fact-is : (f : Fact) (o : Option Fact) → is_fact f o ≡ true → o ≡ Some f

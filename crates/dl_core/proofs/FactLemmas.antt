@@ -6,14 +6,13 @@ use Rattle.dl_terms.specs.Order.{fact_cmp}
 use Rattle.dl_terms.specs.declared.axiom.Fact.{Fact}
 use Rattle.dl_terms.specs.declared.axiom.Signature.{Signature}
 use Rattle.dl_terms.proofs.OrderLemmas.{facts_linear}
-use Rattle.dl_terms.proofs.MemberLemmas.{Contains-cons, Contains-nil, All-Contains}
+use Rattle.dl_terms.proofs.MemberLemmas.{both_true, Contains-cons, Contains-nil, All-Contains}
 use Rattle.dl_row.specs.Lists.{count}
 use Rattle.dl_core.specs.Sets.{has, IsOnce}
 use Rattle.dl_row.specs.Rows.{Epoch, fact_of, is_fact, visible, rows_for}
 use Rattle.dl_core.specs.Root.{RowsSay, IsNumbered, IsPart, AreKnown}
 use Rattle.dl_core.specs.Next.{visible_facts}
 use Rattle.dl_row.specs.declared.row.Row.{Row}
-use Rattle.dl_core.proofs.CountLemmas.{both}
 use Rattle.dl_row.proofs.CountLemmas.{count_there}
 use Rattle.dl_core.proofs.SetLemmas.{has-with_items, once-with_items, once-nil, has_by_count}
 use Rattle.dl_core.proofs.CommitLemmas.{is_fact-is}
@@ -74,6 +73,6 @@ pub visible_known : (es : List Epoch) (rows : List Row) (v : ℕ) (facts : List 
 visible_known es rows v facts s says numbered parts f h =
     let n = says f ∙ ap (λ b. cond b 1 0) h in
     let r = count_there (λ r. visible v r && is_fact f (fact_of es r)) rows (omega (arith, n)) in
-    let e = row_epoch es r.0 f (is_fact-is f (fact_of es r.0) (both (visible v r.0) (is_fact f (fact_of es r.0)) r.2).1) in
+    let e = row_epoch es r.0 f (is_fact-is f (fact_of es r.0) (both_true (visible v r.0) (is_fact f (fact_of es r.0)) r.2).1) in
     let found = find_is (λ d. d.id == r.0.epoch) es e.0 e.1 in
     knows_more e.0.signature s (All-Contains (λ d. IsPart d.signature s) es e.0 parts found.1) f (e.2 (All-Contains IsNumbered es e.0 numbered found.1))

@@ -5,7 +5,7 @@ use Rattle.dl_terms.specs.Order.{fact_cmp}
 use Rattle.dl_terms.specs.declared.axiom.Fact.{Fact}
 use Rattle.dl_terms.specs.declared.axiom.Fact.TheVariants.{Is, Link}
 use Rattle.dl_terms.proofs.OrderLemmas.{facts_linear}
-use Rattle.dl_terms.proofs.MemberLemmas.{All-Contains}
+use Rattle.dl_terms.proofs.MemberLemmas.{both_true, All-Contains}
 use Rattle.dl_core.specs.Sets.{has}
 use Rattle.dl_core.specs.History.{Load, Entry, facts_at}
 use Rattle.dl_row.specs.Rows.{Epoch, epoch_of, names_of, name_at, fact_by, fact_named, fact_in, fact_of, is_fact, visible, rows_for, open_end}
@@ -14,7 +14,6 @@ use Rattle.dl_core.specs.Next.{row_for, root_facts}
 use Rattle.dl_row.specs.declared.row.Kind.{Kind}
 use Rattle.dl_row.specs.declared.row.Kind.TheVariants.{Class, Role}
 use Rattle.dl_row.specs.declared.row.Row.{Row}
-use Rattle.dl_core.proofs.CountLemmas.{both}
 use Rattle.dl_row.proofs.CountLemmas.{same_itself, count_there}
 use Rattle.dl_core.proofs.CommitLemmas.{is_fact-is, is_equal, le_true, lt_true}
 use Rattle.dl_core.proofs.EpochLemmas.{some_none, some_some, number_is, find_is, row_epoch, row_for_stands}
@@ -51,13 +50,13 @@ module _ (l : Load) (history : List Entry) (root : Root) (s : StandsFor l histor
   open_row f h =
       let n = has_one f ∙ ap (λ b. cond b 1 0) h in
       let q = count_there (λ r. visible root.version r && is_fact f (fact_of (epochs root) r)) root.rows (omega (arith, n)) in
-      let seen = both (visible root.version q.0) (is_fact f (fact_of (epochs root) q.0)) q.2 in
+      let seen = both_true (visible root.version q.0) (is_fact f (fact_of (epochs root) q.0)) q.2 in
       let stands = is_fact-is f (fact_of (epochs root) q.0) seen.1 in
       let row = All-Contains (IsRowAt (epochs root) root.version) root.rows q.0 s.rows_are.each q.1 in
       let e = row_epoch (epochs root) q.0 f stands in
       let found = find_is (λ d. d.id == q.0.epoch) (epochs root) e.0 e.1 in
       let numbered = All-Contains IsNumbered (epochs root) e.0 s.epochs_are.numbered found.1 in
-      let last = ends q.0 row (both (nat_le q.0.first root.version) (nat_lt root.version q.0.last) seen.0).1 in
+      let last = ends q.0 row (both_true (nat_le q.0.first root.version) (nat_lt root.version q.0.last) seen.0).1 in
       let is = row_is e.0 q.0 f q.0.kind refl numbered row.ends_agree (sym (ap (fact_in q.0) e.1) ∙ stands) (sym (is_equal e.0.id q.0.epoch found.0)) last in
       (e.0, q.0.first, found.1, e.2 numbered, subst (Contains root.rows) is q.1)
     where

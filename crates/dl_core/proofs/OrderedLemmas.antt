@@ -33,10 +33,6 @@ module _ {A : Type 0} (P : A → Type 0) where
   each-push [] y all p = (p, tt)
   each-push (x ∷ xs) y all p = (all.0, each-push xs y all.1 p)
 
-  pub each-front : (xs : List A) (y : A) → AllByRecursion P (xs ++ y ∷ []) → AllByRecursion P xs
-  each-front [] y all = tt
-  each-front (x ∷ xs) y all = (all.0, each-front xs y all.1)
-
   pub each-last : (xs : List A) (y : A) → AllByRecursion P (xs ++ y ∷ []) → P y
   each-last [] y all = all.0
   each-last (x ∷ xs) y all = each-last xs y all.1
