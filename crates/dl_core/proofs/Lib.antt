@@ -16,3 +16,4 @@ pub mod KnownLemmas
 pub mod RuleLemmas
 pub mod ShardLemmas
 pub mod OpenLemmas
+pub mod HeldLemmas

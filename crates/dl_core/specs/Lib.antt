@@ -6,3 +6,4 @@ pub mod Root
 pub mod Next
 pub mod Legal
 pub mod Examples
+pub mod Held

@@ -3,13 +3,17 @@
 #![tactic(auto)]
 
 mod book;
+mod copies;
 mod event;
 mod fault;
+mod held;
 pub mod laws;
 mod reply;
 pub mod worked_examples;
+mod root;
 
 pub use book::{Book, Pin};
 pub use event::{Edit, Event, Item};
 pub use fault::LoadFault;
 pub use reply::{Looked, Refusal, Reply};
+pub use root::Root;
