@@ -1,16 +1,17 @@
 -- A root, and the book and shards that are its own.
-use Rattle.std.proofs.Common.{IfOk, Result, Ok, Err, ◌≡◌, ℕ, ◌≤◌, ◌<◌, List, [], ◌∷◌, ◌++◌, map, take, ◌+◌, length, get_or, refl, sym, ap, ap₂, subst, ◌∙◌, suc, ◌%◌, ◌==◌, Bool, true, false, cond, flat_map, arith}
+use Rattle.std.proofs.Common.{IfOk, Result, Ok, Err, ◌≡◌, ℕ, ◌≤◌, ◌-◌, ◌<◌, List, [], ◌∷◌, ◌++◌, map, take, ◌+◌, length, get_or, refl, sym, ap, ap₂, subst, ◌∙◌, suc, ◌%◌, ◌==◌, Bool, true, false, cond, flat_map, arith}
 use Rattle.std.specs.List.{All, AllByRecursion, filter}
 use Rattle.std.specs.Ordering.{is_gt}
 use Rattle.std.proofs.lemmas.Bool.Decides.{nat_tests}
-use Rattle.std.proofs.lemmas.List.{get_or-map, length-map, map-append, take_more}
+use Rattle.std.proofs.lemmas.List.{get_or-map, length-map, length-append, map-append, take_more}
 use Rattle.std.proofs.lemmas.List.Elements.{All-get_or, All-from_get_or}
 use Rattle.dl_row.specs.Lists.{Ascends}
 use Rattle.dl_row.specs.Rows.{Epoch, row_cmp}
 use Rattle.dl_row.specs.declared.row.Row.{Row}
 use Rattle.dl_epoch.specs.Frozen.{IsFrozen}
-use Rattle.dl_epoch.specs.Covering.{epoch_in}
-use Rattle.dl_core.specs.Root.{Root, shard, stands_in, AreInShards}
+use Rattle.dl_epoch.specs.Covering.{Kept, kept, epoch_in}
+use Rattle.dl_epoch.specs.declared.entry.Entry.{Entry}
+use Rattle.dl_core.specs.Root.{Root, epochs, shard, stands_in, AreInShards}
 use Rattle.dl_core.specs.Held.{before_last, last_of, older_of, current_of, root_over, rows_of, IsBookOf, AreShardsOf, IsHeld, IsSound, CountsRows}
 use Rattle.dl_core.specs.Next.{with_pins}
 use Rattle.dl_core.specs.declared.book.Book.{Book}
@@ -144,3 +145,42 @@ shards_are root shards some up n same = record {
 
     up_at : (i : ℕ) → i < root.shards → Ascends row_cmp (get_or shards i [])
     up_at i h = subst (Ascends row_cmp) (sym (same i h)) (InOrder-filter (λ x y. is_gt (row_cmp x y) ≡ false) (stands_in root.shards i) root.rows up)
+
+-- ---- the last entry
+
+-- the last entry of a book has the current epoch, and counts its rows
+pub last_entry : (root : Root) (book : Book) (entries : List Entry) (e : Entry) → IsBookOf root book → map kept entries ≡ book.epochs
+    → e ≡ get_or entries (length entries - 1) e → (epoch_in (kept e) ≡ root.current) × CountsRows root (kept e) × IsFrozen (kept e).epoch
+last_entry root book entries e tells are is = (
+  sym (get_or-map epoch_in book.epochs place (kept e) (epoch_in (kept e)) within ∙ ap epoch_in at)
+      ∙ ap (λ es. get_or es place (epoch_in (kept e))) tells.epochs
+      ∙ ap (λ n. get_or (epochs root) n (epoch_in (kept e))) count
+      ∙ last_at root.older root.current (epoch_in (kept e)),
+  subst (CountsRows root) at (All-get_or (CountsRows root) book.epochs place (kept e) within tells.counts),
+  subst (λ (k : Kept). IsFrozen k.epoch) at (All-get_or (λ k. IsFrozen k.epoch) book.epochs place (kept e) within tells.frozen),
+)
+  where
+    last_at : {A : Type 0} (xs : List A) (x d : A) → get_or (xs ++ x ∷ []) (length xs) d ≡ x
+    last_at [] x d = refl
+    last_at (y ∷ xs) x d = last_at xs x d
+
+    place : ℕ
+    place = length entries - 1
+
+    lengths : length entries ≡ length book.epochs
+    lengths = sym (length-map entries kept) ∙ ap length are
+
+    many : length book.epochs ≡ length root.older + 1
+    many = sym (length-map book.epochs epoch_in) ∙ ap length tells.epochs ∙ length-append root.older (root.current ∷ [])
+
+    count : place ≡ length root.older
+    count = let a = lengths in let b = many in omega (arith, a, b)
+
+    within : place < length book.epochs
+    within = let a = lengths in let b = many in omega (arith, a, b)
+
+    at : get_or book.epochs place (kept e) ≡ kept e
+    at =
+        ap (λ ks. get_or ks place (kept e)) (sym are)
+        ∙ get_or-map kept entries place e (kept e) (let a = lengths in let b = many in omega (arith, a, b))
+        ∙ ap kept (sym is)

@@ -17,3 +17,5 @@ pub mod RuleLemmas
 pub mod ShardLemmas
 pub mod OpenLemmas
 pub mod HeldLemmas
+pub mod LookLemmas
+pub mod PinnedLemmas

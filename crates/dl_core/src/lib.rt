@@ -8,6 +8,8 @@ mod event;
 mod fault;
 mod held;
 pub mod laws;
+mod look;
+mod pins;
 mod reply;
 pub mod worked_examples;
 mod root;

@@ -1,14 +1,16 @@
 // A root: what the store has at a version, with what pins and rows still need of earlier ones.
 ghost use Rattle.std.specs.Prelude.{◌≡◌, ◌<◌, length, map, IfOk};
 ghost use Rattle.std.specs.Arc.{arc_value};
+ghost use Rattle.dl_epoch.specs.Frozen.{IsFrozen};
+ghost use Rattle.dl_epoch.specs.Covering.{kept, epoch_in};
 ghost use Rattle.dl_core.specs.Root.{shard};
 ghost use Rattle.dl_core.specs.Next.{with_pins};
-ghost use Rattle.dl_core.specs.Held.{root_over, IsHeld, IsBookOf, AreShardsOf, IsSound};
+ghost use Rattle.dl_core.specs.Held.{root_over, IsHeld, IsBookOf, AreShardsOf, IsSound, CountsRows};
 
 use crate::copies::copied_entries;
 use crate::held::Held;
 use crate::{Book, Pin};
-use dl_epoch::Epochs;
+use dl_epoch::{Entry, Epochs};
 use dl_row::PlainShard;
 use dl_terms::{List, NoMemory};
 use std::alloc::Global;
@@ -91,6 +93,23 @@ impl Root {
         ensures { IfOk result (λ s. arc_value s ≡ shard self.now i) }
     {
         Ok(Arc::try_clone(&self.held.shards.as_slice()[i as usize])?)
+    }
+
+    /// The entry of the current epoch. It takes no memory.
+    pub(crate) fn current(&self) -> &Entry
+        ensures epoch { epoch_in (kept result.now) ≡ self.now.current }
+        ensures rows { CountsRows self.now (kept result.now) }
+        ensures frozen { IsFrozen (kept result.now).epoch }
+    {
+        let entries = self.held.book.epochs.entries();
+        &entries[entries.len() - 1]
+    }
+
+    /// All shards, as they are held. It takes no memory.
+    pub(crate) fn held_shards(&self) -> &[Arc<PlainShard, Global>]
+        ensures { AreShardsOf self.now (map arc_value result.now) }
+    {
+        self.held.shards.as_slice()
     }
 
     /// All shards, shared. It fails only for want of memory.
