@@ -19,3 +19,4 @@ pub mod OpenLemmas
 pub mod HeldLemmas
 pub mod LookLemmas
 pub mod PinnedLemmas
+pub mod ReaderLemmas

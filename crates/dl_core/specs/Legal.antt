@@ -1,10 +1,12 @@
 -- Legal histories and readers. They are this project's own.
 use Rattle.std.specs.Prelude.{◌≡◌, ℕ, List, [], ◌∷◌, ◌++◌}
+use Rattle.std.specs.Option.{option_map}
 use Rattle.std.specs.declared.option.Option.{Option}
 use Rattle.dl_row.specs.declared.row.Row.{Row}
 use Rattle.dl_core.specs.History.{Load, Entry, pin_of}
-use Rattle.dl_core.specs.Root.{Root, shard}
+use Rattle.dl_core.specs.Root.{Root, shard, pin_in}
 use Rattle.dl_core.specs.Next.{Numbering, MeetsCondition, next, loaded}
+use Rattle.dl_core.specs.declared.book.Pin.{Pin}
 use Rattle.dl_core.specs.declared.event.Event.{Event}
 
 -- what an entry's stream asked for
@@ -54,11 +56,23 @@ pub record ReaderStandsFor (numbering : Numbering) (l : Load) (seen : List Entry
   pub root : reader.root ≡ root_of numbering l seen
   pub pin : reader.pin ≡ pin_of seen reader.stream
 
--- a fetch of a shard: what was seen grows, and the pin stays
-pub record IsFetch (numbering : Numbering) (l : Load) (before : List Entry) (i : ℕ) (old new : Reader) : Type 0 where
-  pub seen : List Entry
-  pub begins : Begins before seen
-  pub stands : ReaderStandsFor numbering l seen new
+-- the reader of a stream that looks at a root alone
+abbrev pub plain_reader : Root → ℕ → ℕ → Reader
+plain_reader root stream at = record { root = root; stream = stream; pin = pin_in root.pins stream; at = at }
+
+-- the pin of a reader, with its stream
+abbrev pub pin_shown : Reader → Option Pin
+pin_shown reader = option_map (λ version. record { stream = reader.stream; version = version }) reader.pin
+
+-- a fetch of a shard: stream, pin and number of shards stay
+pub record IsFetch (i : ℕ) (old new : Reader) : Type 0 where
   pub stream : new.stream ≡ old.stream
   pub pin : new.pin ≡ old.pin
+  pub shards : new.root.shards ≡ old.root.shards
   pub at : new.at ≡ i
+
+-- a reader, which stands for some lists of entries, stands for one that begins with what was seen before
+pub record SeesMore (Stands : List Entry → Type 0) (before : List Entry) : Type 0 where
+  pub seen : List Entry
+  pub begins : Begins before seen
+  pub stands : Stands seen

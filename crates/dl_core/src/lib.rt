@@ -10,12 +10,16 @@ mod held;
 pub mod laws;
 mod look;
 mod pins;
+mod reads;
 mod reply;
-pub mod worked_examples;
 mod root;
+mod root_reads;
+pub mod worked_examples;
 
 pub use book::{Book, Pin};
 pub use event::{Edit, Event, Item};
 pub use fault::LoadFault;
+pub use reads::Reads;
 pub use reply::{Looked, Refusal, Reply};
 pub use root::Root;
+pub use root_reads::RootReads;

@@ -1,5 +1,5 @@
 // A root: what the store has at a version, with what pins and rows still need of earlier ones.
-ghost use Rattle.std.specs.Prelude.{◌≡◌, ◌<◌, length, map, IfOk};
+ghost use Rattle.std.specs.Prelude.{◌≡◌, ◌<◌, ◌≤◌, length, map, IfOk};
 ghost use Rattle.std.specs.Arc.{arc_value};
 ghost use Rattle.dl_epoch.specs.Frozen.{IsFrozen};
 ghost use Rattle.dl_epoch.specs.Covering.{kept, epoch_in};
@@ -73,9 +73,11 @@ impl Root {
         &self.held.book
     }
 
-    /// How many shards there are. It takes no memory.
+    /// How many shards there are, from 1 to 64. It takes no memory.
     pub fn shards(&self) -> u32
-        ensures { result ≡ self.now.shards }
+        ensures count { result ≡ self.now.shards }
+        ensures some { 1 ≤ result }
+        ensures few { result ≤ 64 }
     {
         self.held.shards.len() as u32
     }
