@@ -20,3 +20,8 @@ pub mod HeldLemmas
 pub mod LookLemmas
 pub mod PinnedLemmas
 pub mod ReaderLemmas
+pub mod NewRowLemmas
+pub mod PartLemmas
+pub mod FillerLemmas
+pub mod SetOfLemmas
+pub mod LoadLemmas

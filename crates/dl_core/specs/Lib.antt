@@ -7,3 +7,4 @@ pub mod Next
 pub mod Legal
 pub mod Examples
 pub mod Held
+pub mod Loading

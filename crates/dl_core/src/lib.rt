@@ -4,21 +4,27 @@
 
 mod book;
 mod copies;
+mod counts;
 mod event;
 mod fault;
+mod first_root;
 mod held;
 pub mod laws;
+mod loaded_shards;
 mod look;
+mod new_rows;
 mod pins;
 mod reads;
 mod reply;
 mod root;
 mod root_reads;
+mod sets;
 pub mod worked_examples;
 
 pub use book::{Book, Pin};
 pub use event::{Edit, Event, Item};
 pub use fault::LoadFault;
+pub use first_root::load;
 pub use reads::Reads;
 pub use reply::{Looked, Refusal, Reply};
 pub use root::Root;

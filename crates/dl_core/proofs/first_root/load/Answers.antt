@@ -1,0 +1,35 @@
+use Rattle.std.proofs.Common.{All, MatchResult, sym, subst}
+use Rattle.dl_terms.specs.Fillers.{HasNoFiller}
+use Rattle.dl_epoch.specs.Known.{IsAxiomIn}
+use Rattle.dl_core.specs.History.{Load}
+use Rattle.dl_core.specs.Loading.{IsLoadOf, IsLoaded, IsLoadFault}
+use Rattle.dl_core.proofs.SetOfLemmas.{set_all}
+use Rattle.dl_core.proofs.LoadLemmas.{axioms_in_set, match_ok, match_err}
+use Rattle.dl_core.proofs.first_root.load.Goals as goal
+
+pub load_axioms-requires-2-clause-no_filler : goal.load_axioms-requires-2-clause-no_filler
+load_axioms-requires-2-clause-no_filler c =
+    subst (All HasNoFiller) (sym c.as_slice.ensures)
+    (set_all HasNoFiller c.in_ok-set.set c.args.axioms.now c.in_ok-set.ensures c.requires.no_filler)
+
+pub load_axioms-requires-2-clause-axioms : goal.load_axioms-requires-2-clause-axioms
+load_axioms-requires-2-clause-axioms c =
+    let s = c.args.signature.now in
+    subst (All (IsAxiomIn s)) (sym c.as_slice.ensures)
+    (set_all (IsAxiomIn s) c.in_ok-set.set c.args.axioms.now c.in_ok-set.ensures c.requires.axioms)
+
+outcome : (c : goal.After-drop-set-inside) → (l : Load)
+    → IsLoadOf c.args.axioms.now c.args.signature.now c.args.facts.now c.args.shards l
+    → MatchResult c.load_axioms-2.result (IsLoaded l) (IsLoadFault l)
+outcome c l is =
+    let s = c.args.signature.now in
+    let facts = c.args.facts.now in
+    c.load_axioms-2.ensures l
+    (subst (λ axioms. IsLoadOf axioms s facts c.args.shards l) (sym c.as_slice.ensures)
+    (axioms_in_set s c.args.shards l c.in_ok-set.set c.args.axioms.now facts c.in_ok-set.ensures is))
+
+pub returns-clause-loaded : goal.returns-clause-loaded
+returns-clause-loaded c = λ l is. match_ok (IsLoaded l) (IsLoadFault l) c.load_axioms-2.result (outcome c l is)
+
+pub returns-clause-refused : goal.returns-clause-refused
+returns-clause-refused c = λ l is. match_err (IsLoaded l) (IsLoadFault l) c.load_axioms-2.result (outcome c l is)
