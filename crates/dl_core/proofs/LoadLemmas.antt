@@ -27,6 +27,7 @@ use Rattle.dl_epoch.specs.Covering.{epoch_in}
 use Rattle.dl_epoch.specs.Known.{IsSignature, max_weight}
 use Rattle.dl_core.specs.Sets.{has}
 use Rattle.dl_core.specs.Names.{predicates}
+use Rattle.dl_core.specs.Sets.{with_items}
 use Rattle.dl_core.specs.History.{Load}
 use Rattle.dl_core.specs.Root.{Root, IsLoad, StandsFor, carries, stands_in, knows}
 use Rattle.dl_core.specs.Next.{Numbering, GoesByRule, epoch_from, row_for, loaded, load_refused, max_count}
@@ -40,7 +41,7 @@ use Rattle.dl_core.proofs.HeldLemmas.{shards_are, held_over, held_root}
 use Rattle.dl_core.proofs.ShardLemmas.{filter-ordered}
 use Rattle.dl_core.proofs.RunLemmas.{loaded_stands}
 use Rattle.dl_core.proofs.RuleLemmas.{rule_is_numbering, ruled_epoch, rule_exists}
-use Rattle.dl_core.proofs.SetOfLemmas.{set_between}
+use Rattle.dl_core.proofs.SetOfLemmas.{set_between, set_exists}
 use Rattle.dl_core.proofs.FillerLemmas.{count_all}
 use Rattle.dl_core.proofs.AscendLemmas.{sorted-once, signature-once}
 use Rattle.dl_core.proofs.SetLemmas.{has_there, there_has}
@@ -128,6 +129,18 @@ ascending_load axioms s facts shards l up up' is =
     let f = sorted_unique facts_linear facts l.facts up' is.facts_are.ascending
     (λ x. (is.facts_are.members x).1) (λ x. (is.facts_are.members x).0) in
     (λ i. record { axioms = a i; signature = sym is.signature_is i; facts = f i; shards = sym is.shards_are i })
+
+pub load_exists : (axioms : List Axiom) (s : Signature) (facts : List Fact) (shards : ℕ)
+    → (l : Load) × IsLoadOf axioms s facts shards l
+load_exists axioms s facts shards = (
+  load_with (with_items axiom_cmp axioms []) s (with_items fact_cmp facts []) shards,
+  record {
+    axioms_are = set_exists axioms_linear axioms;
+    signature_is = refl;
+    facts_are = set_exists facts_linear facts;
+    shards_are = refl;
+  },
+)
 
 fact_known : (s : Signature) (f : Fact) → IsFactIn s f → knows s f ≡ true
 fact_known s (Is c a) there = has_there numbers_linear s.classes c there
@@ -251,6 +264,16 @@ module _ (s : Signature) (shards : ℕ) (l : Load) where
     facts_are = set_between l.facts set facts is.facts_are has;
     shards_are = is.shards_are;
   }
+
+pub one_load : (axioms : List Axiom) (s : Signature) (facts : List Fact) (shards : ℕ) (l m : Load)
+    → IsLoadOf axioms s facts shards l → IsLoadOf axioms s facts shards m → l ≡ m
+one_load axioms s facts shards l m is also = sym (of_sets l is) ∙ of_sets m also
+  where
+    of_sets : (k : Load) → IsLoadOf axioms s facts shards k → load_with l.axioms s l.facts shards ≡ k
+    of_sets k has =
+        ascending_load l.axioms s l.facts shards k is.axioms_are.ascending is.facts_are.ascending
+        (axioms_in_set s shards k l.axioms axioms l.facts is.axioms_are
+        (facts_in_set s shards k axioms l.facts facts is.facts_are has))
 
 -- ---- what is said of both outcomes, of one
 

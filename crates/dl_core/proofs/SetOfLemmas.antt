@@ -1,5 +1,5 @@
 -- Sets of lists, by the order that the code has and by that of the definitions.
-use Rattle.std.proofs.Common.{◌≡◌, ℕ, ◌≤◌, Bool, All, Contains, List, [], ◌∷◌, length, subst, arith}
+use Rattle.std.proofs.Common.{◌≡◌, ℕ, ◌≤◌, Bool, true, false, ◌||◌, refl, sym, ap, ◌∙◌, All, Contains, List, [], ◌∷◌, length, subst, arith}
 use Rattle.std.specs.Bool.{OnTrue}
 use Rattle.std.specs.Cmp.{IsTotalOrder}
 use Rattle.std.specs.List.{AllAdjacentBelow}
@@ -10,6 +10,10 @@ use Rattle.std.proofs.lemmas.Map.Keys.{sorted_from_all_adjacent}
 use Rattle.std.proofs.Math.Path.{fun_ext}
 use Rattle.std.proofs.lemmas.List.Elements.{All-weaker, All-contains, All-contains_itself}
 use Rattle.dl_terms.specs.Sets.{IsSetOf}
+use Rattle.dl_terms.proofs.OrderLemmas.{IsLinear}
+use Rattle.dl_core.specs.Sets.{has, with_items}
+use Rattle.dl_core.proofs.SetLemmas.{has-with_items, has_there, there_has}
+use Rattle.dl_core.proofs.AscendLemmas.{with_items-sorted}
 
 module _ {A : Type 0} (R S : A → A → Ordering) (same : (x y : A) → R x y ≡ S x y) where
   pub ascends_derived : (b : Bool) (items : List A) → OnTrue b (IsStrictlySortedBy R items)
@@ -44,3 +48,21 @@ pub set_all : {A : Type 0} {cmp : A → A → Ordering} (P : A → Type 0) (set 
     → All P items → All P set
 set_all P set items is all =
     All-weaker (Contains set) P (λ x c. All-contains P items x all ((is.members x).0 c)) set (All-contains_itself set)
+
+-- each list has a set
+pub set_exists : {A : Type 0} {cmp : A → A → Ordering} → IsLinear cmp → (items : List A)
+    → IsSetOf cmp (with_items cmp items []) items
+unfolding IsStrictlySortedBy
+set_exists {A} {cmp} l items = record {
+  ascending = with_items-sorted l items [] tt;
+  members = λ x. (
+    λ c. there_has l items x (or_none (has cmp items x)
+        (sym (has-with_items l items [] x) ∙ has_there l (with_items cmp items []) x c)),
+    λ c. there_has l (with_items cmp items []) x
+        (has-with_items l items [] x ∙ ap (λ b. b || false) (has_there l items x c)),
+  );
+}
+  where
+    or_none : (b : Bool) → (b || false) ≡ true → b ≡ true
+    or_none true e = refl
+    or_none false e = e

@@ -2,7 +2,9 @@
 ghost use Rattle.std.specs.Prelude.{◌≡◌, ℕ, ◌+◌, ◌<◌, ◌≤◌, true, List, [], ◌∷◌, ◌++◌, Some, map};
 ghost use Rattle.std.specs.List.{All, Contains, filter, flat_map, slice_index_or as get_or};
 ghost use Rattle.dl_terms.specs.Order.{fact_cmp};
+ghost use Rattle.dl_terms.specs.declared.axiom.Axiom.{Axiom};
 ghost use Rattle.dl_terms.specs.declared.axiom.Fact.{Fact};
+ghost use Rattle.dl_terms.specs.declared.axiom.Signature.{Signature};
 ghost use Rattle.dl_row.specs.Lists.{Ascends, ordered};
 ghost use Rattle.dl_row.specs.Rows.{Epoch, fact_of, rows_for, row_cmp, epoch_of, open_end};
 ghost use Rattle.dl_row.specs.declared.row.Row.{Row};
@@ -12,7 +14,8 @@ ghost use Rattle.dl_core.specs.History.{Load, Entry, version_of, commits_to, pin
 ghost use Rattle.dl_core.specs.Root.{Root, IsNumbered, knows, ReadsAs, epochs, shard, stands_in, AreInShards, IsRowAt};
 ghost use Rattle.dl_core.specs.Root.{RowsSay, StandsFor, IsLoad};
 ghost use Rattle.dl_core.specs.Next.{Numbering, committed, committed_epoch, ended, new_facts, root_facts, IsNumbering};
-ghost use Rattle.dl_core.specs.Next.{IsReady, loaded, next, row_for, committed_rows};
+ghost use Rattle.dl_core.specs.Next.{IsReady, GoesByRule, loaded, next, row_for, committed_rows};
+ghost use Rattle.dl_core.specs.Loading.{IsLoadOf};
 ghost use Rattle.dl_core.specs.Legal.{asked, IsLegal, IsLegalFrom, root_of};
 ghost use Rattle.dl_core.specs.declared.event.Edit.{Edit};
 ghost use Rattle.dl_core.specs.declared.event.Event.{Event};
@@ -95,4 +98,19 @@ pub fn facts_have_open_rows()
         → (f : Fact) (e : Epoch) (v : ℕ) → epoch_of (epochs root) e.id ≡ Some e → IsNumbered e
         → knows e.signature f ≡ true → Contains root.rows (row_for e v f) → root.version < open_end
         → has fact_cmp (root_facts root) f ≡ true }
+{}
+
+/// There is a numbering by the rule, and each has the names of a signature once. So nothing that is said of the
+/// numberings by the rule is said of none, and what the other laws say of numberings holds of these.
+pub fn numberings_go_by_the_rule()
+    ensures exists { (numbering : Numbering) × GoesByRule numbering }
+    ensures numbers { (numbering : Numbering) → GoesByRule numbering → IsNumbering numbering }
+{}
+
+/// Lists of axioms and facts are one load, whatever their order.
+pub fn lists_are_one_load()
+    ensures exists { (axioms : List Axiom) (signature : Signature) (facts : List Fact) (shards : ℕ)
+        → (l : Load) × IsLoadOf axioms signature facts shards l }
+    ensures one { (axioms : List Axiom) (signature : Signature) (facts : List Fact) (shards : ℕ) (l m : Load)
+        → IsLoadOf axioms signature facts shards l → IsLoadOf axioms signature facts shards m → l ≡ m }
 {}

@@ -13,6 +13,7 @@ use dl_epoch::Epoch;
 use dl_row::{PlainShard, Row};
 use dl_terms::{Fact, List, NoMemory};
 use std::alloc::Global;
+use std::mem;
 use std::sync::Arc;
 
 /// The shards of facts, each by its row from version 1 on. It fails only for want of memory.
@@ -28,20 +29,22 @@ pub(crate) fn loaded_shards(
     ensures { IfOk result (λ made. AreOrderedParts shards
         (map (row_for (from_version 1 epoch.now) 1) facts.now) (map arc_value made)) }
 {
-    let parts = rows_by_shard(alloc, epoch, 1, facts, shards)?;
+    let mut parts = rows_by_shard(alloc, epoch, 1, facts, shards)?;
     let mut made = List::new(alloc);
-    for rows in &parts {
-        made.push(shard_of(alloc, rows.as_slice())?)?;
+    for i in 0..shards as usize {
+        // Rows are let go as soon as their shard has them.
+        let rows = mem::replace(&mut parts[i], List::new(alloc));
+        made.push(shard_of(alloc, rows)?)?;
     }
     Ok(made)
 }
 
 /// The shard of some rows. It fails only for want of memory.
-fn shard_of(alloc: Global, rows: &[Row]) -> Result<Arc<PlainShard, Global>, NoMemory>
-    requires { length rows.now ≤ max_rows }
-    ensures { IfOk result (λ shard. arc_value shard ≡ ordered row_cmp rows.now) }
+fn shard_of(alloc: Global, rows: List<Row>) -> Result<Arc<PlainShard, Global>, NoMemory>
+    requires { length rows ≤ max_rows }
+    ensures { IfOk result (λ shard. arc_value shard ≡ ordered row_cmp rows) }
 {
-    let shard = PlainShard::empty(alloc).with(alloc, &[], rows)?;
+    let shard = PlainShard::empty(alloc).with(alloc, &[], rows.as_slice())?;
     match Arc::new(alloc, shard) {
         Ok(shard) => Ok(shard),
         Err(_) => Err(NoMemory),
