@@ -25,3 +25,4 @@ pub mod PartLemmas
 pub mod FillerLemmas
 pub mod SetOfLemmas
 pub mod LoadLemmas
+pub mod SaidLemmas

@@ -8,3 +8,4 @@ pub mod Legal
 pub mod Examples
 pub mod Held
 pub mod Loading
+pub mod Decided
