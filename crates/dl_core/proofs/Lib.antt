@@ -26,3 +26,5 @@ pub mod FillerLemmas
 pub mod SetOfLemmas
 pub mod LoadLemmas
 pub mod SaidLemmas
+pub mod KeyLemmas
+pub mod AxiomEditLemmas

@@ -5,6 +5,7 @@
 mod book;
 mod copies;
 mod counts;
+mod edited_axioms;
 mod edited_facts;
 mod event;
 mod fault;

@@ -1,0 +1,18 @@
+use Rattle.std.proofs.Common.{◌≡◌, false, sym, subst, All, IfOk, rules}
+use Rattle.std.specs.List.{list_any}
+use Rattle.dl_terms.specs.Fillers.{HasNoFiller}
+use Rattle.dl_core.specs.Decided.{is_axiom}
+use Rattle.dl_core.specs.Edits.{edited_axioms}
+use Rattle.dl_core.proofs.AxiomEditLemmas.{edited_none, edited_no_filler}
+use Rattle.dl_core.proofs.edited_axioms.edited_axioms.Goals as goal
+
+pub returns-then-not-edit_axioms-clause-edited : goal.returns-then-not-edit_axioms-clause-edited
+returns-then-not-edit_axioms-clause-edited c =
+    let none : list_any (λ e. is_axiom e.item) c.args.edits.now ≡ false = search rules in
+    subst (λ axioms. IfOk c.copied_axioms.result (λ after. after ≡ axioms)) (sym (edited_none c.args.edits.now c.args.axioms.now none))
+    c.copied_axioms.ensures
+
+pub returns-clause-no_filler : goal.returns-clause-no_filler
+returns-clause-no_filler c all none =
+    let is : c.of.result ≡ edited_axioms c.args.edits.now c.args.axioms.now = search rules in
+    subst (All HasNoFiller) (sym is) (edited_no_filler c.args.edits.now c.args.axioms.now all none)

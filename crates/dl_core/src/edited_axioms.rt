@@ -1,0 +1,98 @@
+// What edits make of a set of axioms.
+ghost use Rattle.std.specs.Prelude.{◌≡◌, All, IfOk, OnOk};
+ghost use Rattle.std.specs.List.{list_any};
+ghost use Rattle.std.specs.List.Sorted.{IsStrictlySortedBy};
+ghost use Rattle.dl_terms.specs.Fillers.{HasNoFiller};
+ghost use Rattle.dl_terms.specs.Order.{axiom_cmp};
+ghost use Rattle.dl_core.specs.Decided.{is_axiom};
+ghost use Rattle.dl_core.specs.Edits.{axioms_with, edited_axioms as axioms_after};
+ghost use Rattle.dl_core.specs.Next.{ItemHasNoFiller};
+
+use crate::{Edit, Item};
+use dl_epoch::{copied_axiom, copied_axioms};
+use dl_terms::{Axiom, List, NoMemory, axioms_are_ordered};
+use std::alloc::Global;
+use std::collections::BTreeSet;
+
+/// The axioms after edits, one edit after another. The axioms ascend strictly. It fails only for want of memory.
+pub(crate) fn edited_axioms(
+    alloc: Global,
+    axioms: &[Axiom],
+    edits: &[Edit],
+) -> Result<List<Axiom>, NoMemory>
+    requires { IsStrictlySortedBy axiom_cmp axioms.now }
+    ensures edited { IfOk result (λ after. after ≡ axioms_after edits.now axioms.now) }
+    ensures ascending { IfOk result (λ after. IsStrictlySortedBy axiom_cmp after) }
+    ensures no_filler { All HasNoFiller axioms.now → All (λ e. ItemHasNoFiller e.item) edits.now
+        → IfOk result (λ after. All HasNoFiller after) }
+{
+    // Most commits edit facts alone.
+    if !edit_axioms(edits) {
+        return copied_axioms(alloc, axioms);
+    }
+    let set = edited_set(alloc, axioms, edits)?;
+    axioms_are_ordered();
+    let after: Vec<Axiom> = set.into_iter().collect(alloc)?;
+    Ok(List::of(after))
+}
+
+/// Whether an edit is of an axiom.
+fn edit_axioms(edits: &[Edit]) -> bool
+    ensures { result ≡ list_any (λ e. is_axiom e.item) edits.now }
+{
+    for edit in edits {
+        if let Item::Axiom(_) = &edit.item {
+            return true;
+        }
+    }
+    false
+}
+
+/// The axioms after edits, as a set.
+fn edited_set(alloc: Global, axioms: &[Axiom], edits: &[Edit]) -> Result<BTreeSet<Axiom>, NoMemory>
+    requires { IsStrictlySortedBy axiom_cmp axioms.now }
+    ensures { IfOk result (λ set. set.keys ≡ axioms_after edits.now axioms.now) }
+{
+    let mut set = axiom_set(alloc, axioms)?;
+    for edit in edits {
+        edit_set(alloc, &mut set, edit)?;
+    }
+    Ok(set)
+}
+
+/// The same axioms as a set.
+fn axiom_set(alloc: Global, axioms: &[Axiom]) -> Result<BTreeSet<Axiom>, NoMemory>
+    requires { IsStrictlySortedBy axiom_cmp axioms.now }
+    ensures { IfOk result (λ set. set.keys ≡ axioms.now) }
+{
+    axioms_are_ordered();
+    let mut set = BTreeSet::new(alloc);
+    for axiom in axioms {
+        let copy = copied_axiom(alloc, axiom)?;
+        let Ok(_) = set.insert(copy) else {
+            return Err(NoMemory);
+        };
+    }
+    Ok(set)
+}
+
+/// Makes one edit.
+fn edit_set(alloc: Global, set: &mut BTreeSet<Axiom>, edit: &Edit) -> Result<(), NoMemory>
+    requires { IsStrictlySortedBy axiom_cmp set.old.keys }
+    ensures ok { OnOk result (set.new.keys ≡ axioms_with edit.now.add edit.now.item set.old.keys) }
+    ensures ascending { IsStrictlySortedBy axiom_cmp set.new.keys }
+{
+    axioms_are_ordered();
+    let Item::Axiom(axiom) = &edit.item else {
+        return Ok(());
+    };
+    if !edit.add {
+        set.remove(axiom);
+        return Ok(());
+    }
+    let copy = copied_axiom(alloc, axiom)?;
+    let Ok(_) = set.insert(copy) else {
+        return Err(NoMemory);
+    };
+    Ok(())
+}
