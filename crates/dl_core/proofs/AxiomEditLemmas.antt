@@ -1,31 +1,25 @@
 -- What edits make of a set of axioms, and of the library's set of them.
-use Rattle.std.proofs.Common.{◌≡◌, ℕ, ◌+◌, ◌<◌, Bool, true, false, not, cond, ◌||◌, List, [], ◌∷◌, ◌++◌, length, take, get_or, All, refl, sym, ap, ◌∙◌, true≢false, arith, get_or-take}
+use Rattle.std.proofs.Common.{◌≡◌, ℕ, ◌+◌, ◌<◌, Bool, true, false, ◌||◌, List, [], ◌∷◌, ◌++◌, length, take, get_or, All, refl, sym, ap, ◌∙◌, true≢false, arith, get_or-take}
 use Rattle.std.proofs.Math.Path.{fun_ext}
 use Rattle.std.specs.declared.cmp.Ordering.{Ordering}
 use Rattle.std.specs.declared.cmp.Ordering.TheVariants.{Less}
-use Rattle.std.specs.Ordering.{is_eq}
 use Rattle.std.specs.List.{list_any}
 use Rattle.std.specs.List.Sorted.{IsStrictlySortedBy}
 use Rattle.std.specs.BTreeMap.{is_at}
 use Rattle.std.specs.BTreeSet.{insert_key}
 use Rattle.std.specs.Set.{remove_key}
 use Rattle.std.proofs.lemmas.List.{take_more, length-take-le, get_or_default}
-use Rattle.std.proofs.lemmas.List.Elements.{All-head, All-tail, All-filter, recursion_from_All}
+use Rattle.std.proofs.lemmas.List.Elements.{recursion_from_All}
 use Rattle.std.proofs.lemmas.Map.Keys.{Less-from_sorted}
-use Rattle.dl_terms.specs.Fillers.{HasNoFiller}
 use Rattle.dl_terms.specs.Order.{axiom_cmp}
 use Rattle.dl_terms.specs.declared.axiom.Axiom.{Axiom}
 use Rattle.dl_terms.proofs.OrderLemmas.{axioms_linear}
-use Rattle.dl_row.specs.Lists.{put}
 use Rattle.dl_core.specs.Decided.{is_axiom}
 use Rattle.dl_core.specs.Edits.{axioms_with, edited_axioms}
-use Rattle.dl_core.specs.Next.{ItemHasNoFiller}
-use Rattle.dl_core.specs.Sets.{has}
 use Rattle.dl_core.specs.declared.event.Item.{Item}
 use Rattle.dl_core.specs.declared.event.Item.TheVariants as item
 use Rattle.dl_core.specs.declared.event.Edit.{Edit}
 use Rattle.dl_core.proofs.KeyLemmas.{insert_key-with, remove_key-without, insert_key-last}
-use Rattle.dl_core.proofs.OrderedLemmas.{All-put}
 
 -- ---- no edit of an axiom changes nothing
 
@@ -47,29 +41,6 @@ edited_none (e ∷ edits) axioms none = by (is_axiom e.item) refl none (edited_n
         → edited_axioms edits (axioms_with e.add e.item axioms) ≡ axioms
     by true is none rest = absurd (true≢false none)
     by false is none rest = ap (edited_axioms edits) (other_item e.add e.item axioms is) ∙ rest none
-
--- ---- axioms without fillers stay so
-
-with_no_filler : (add : Bool) (i : Item) (axioms : List Axiom) → ItemHasNoFiller i → All HasNoFiller axioms → All HasNoFiller (axioms_with add i axioms)
-with_no_filler true (item.Axiom a) axioms none all = by (has axiom_cmp axioms a)
-  where
-    by : (b : Bool) → All HasNoFiller (cond b axioms (put axiom_cmp a axioms))
-    by true = all
-    by false = All-put HasNoFiller axiom_cmp a axioms none all
-with_no_filler false (item.Axiom a) axioms none all = All-filter (λ b. not (is_eq (axiom_cmp a b))) HasNoFiller axioms all
-with_no_filler true (item.Fact f) axioms none all = all
-with_no_filler true (item.Class c) axioms none all = all
-with_no_filler true (item.Property p) axioms none all = all
-with_no_filler false (item.Fact f) axioms none all = all
-with_no_filler false (item.Class c) axioms none all = all
-with_no_filler false (item.Property p) axioms none all = all
-
-pub edited_no_filler : (edits : List Edit) (axioms : List Axiom) → All HasNoFiller axioms → All (λ e. ItemHasNoFiller e.item) edits
-    → All HasNoFiller (edited_axioms edits axioms)
-edited_no_filler [] axioms all none = all
-edited_no_filler (e ∷ edits) axioms all none =
-    edited_no_filler edits (axioms_with e.add e.item axioms)
-    (with_no_filler e.add e.item axioms (All-head (λ d. ItemHasNoFiller d.item) e edits none) all) (All-tail (λ d. ItemHasNoFiller d.item) e edits none)
 
 -- ---- the library's set, by an order that agrees with that of axioms
 

@@ -1,7 +1,7 @@
 -- Axioms after edits: a signature has their names, and none has a filler.
-use Rattle.std.proofs.Common.{◌≡◌, ℕ, Bool, true, false, not, cond, ◌||◌, List, [], ◌∷◌, ◌++◌, flat_map, All, Contains, refl, sym, ap, subst, ◌∙◌}
+use Rattle.std.proofs.Common.{◌≡◌, ℕ, Bool, true, false, not, cond, ◌||◌, List, [], ◌∷◌, All, Contains, refl, sym, ap, subst, ◌∙◌}
 use Rattle.std.specs.Ordering.{is_eq, nat_cmp}
-use Rattle.std.proofs.lemmas.List.Elements.{All-weaker, All-filter, All-head, All-tail, All-contains_itself, Contains-append_left, Contains-append_right}
+use Rattle.std.proofs.lemmas.List.Elements.{All-weaker, All-filter, All-head, All-tail, All-contains_itself}
 use Rattle.dl_terms.specs.Fillers.{HasNoFiller}
 use Rattle.dl_terms.specs.Order.{axiom_cmp}
 use Rattle.dl_terms.specs.declared.role.Base.{Base}
@@ -14,15 +14,12 @@ use Rattle.dl_terms.specs.declared.axiom.Part.TheVariants as part
 use Rattle.dl_terms.specs.declared.axiom.Axiom.{Axiom}
 use Rattle.dl_terms.specs.declared.axiom.Axiom.TheVariants.{SubClass, EquivalentClasses, DisjointClasses, SubRole, EquivalentRoles, DisjointRoles, InverseRoles, Domain, Range, Symmetric, Asymmetric, Irreflexive}
 use Rattle.dl_terms.specs.declared.axiom.Signature.{Signature}
-use Rattle.dl_terms.proofs.MemberLemmas.{Contains-first, Contains-later}
 use Rattle.dl_terms.proofs.OrderLemmas.{numbers_linear}
-use Rattle.dl_normal.specs.Filled.{parts_of}
 use Rattle.dl_hier.specs.Rows.{IsNamedIn}
-use Rattle.dl_hier.proofs.MemberLemmas.{Contains-flat_map_of, Contains-map_of}
 use Rattle.dl_epoch.specs.Known.{IsRoleIn, IsConceptIn, IsPartIn, IsAxiomIn}
 use Rattle.dl_row.specs.Lists.{put}
 use Rattle.dl_core.specs.Sets.{has, with_items}
-use Rattle.dl_core.specs.Names.{basics_of, roles_of, base_property, basic_classes, basic_roles, part_classes, part_roles, item_classes, item_properties}
+use Rattle.dl_core.specs.Names.{item_classes, item_properties}
 use Rattle.dl_core.specs.Edits.{axioms_with, edited_axioms, signature_with, edited_signature}
 use Rattle.dl_core.specs.Root.{IsPart}
 use Rattle.dl_core.specs.Next.{ItemHasNoFiller}
@@ -30,6 +27,7 @@ use Rattle.dl_core.specs.declared.event.Edit.{Edit}
 use Rattle.dl_core.specs.declared.event.Item.{Item}
 use Rattle.dl_core.specs.declared.event.Item.TheVariants as item
 use Rattle.dl_core.proofs.SetLemmas.{has-with_items, has_there, there_has}
+use Rattle.dl_epoch.proofs.PredicateLemmas.{axiom_is_in}
 use Rattle.dl_core.proofs.OrderedLemmas.{All-put}
 use Rattle.dl_core.proofs.EditLemmas.{signature_grows}
 
@@ -77,77 +75,19 @@ module _ (s t : Signature) (grows : IsPart s t) where
   axiom_more (Asymmetric r) h = base_more r.base h
   axiom_more (Irreflexive r) h = base_more r.base h
 
--- ---- a signature that has the names of an item has the axiom in it
-
-module _ (t : Signature) where
-  base_in : (b : Base) → Contains t.roles (base_property b) → IsNamedIn t.roles b
-  base_in (Named p) h = h
-  base_in (Filler p i c) h = tt
-
-  concept_in_it : (b : Basic) → ((c : ℕ) → Contains (basic_classes b) c → Contains t.classes c)
-      → ((r : Role) → Contains (basic_roles b) r → IsRoleIn t r) → IsConceptIn t b
-  concept_in_it (basic.Class c) classes roles = classes c (Contains-first c [])
-  concept_in_it (basic.SomeOf r) classes roles = roles r (Contains-first r [])
-
-  part_in_it : (p : Part) → ((c : ℕ) → Contains (part_classes p) c → Contains t.classes c)
-      → ((r : Role) → Contains (part_roles p) r → IsRoleIn t r) → IsPartIn t p
-  part_in_it part.Thing classes roles = tt
-  part_in_it (part.Class c) classes roles = classes c (Contains-first c [])
-  part_in_it (part.Any r) classes roles = roles r (Contains-first r [])
-  part_in_it (part.Fill r c) classes roles = (roles r (Contains-first r []), classes c (Contains-first c []))
-  part_in_it (part.Not b) classes roles = concept_in_it b classes roles
-
-  module _ (a : Axiom) (classes : (c : ℕ) → Contains (item_classes (item.Axiom a)) c → Contains t.classes c)
-      (names : (p : ℕ) → Contains (item_properties (item.Axiom a)) p → Contains t.roles p) where
-    of_axiom : (r : Role) → Contains (flat_map basic_roles (basics_of a) ++ flat_map part_roles (parts_of a) ++ roles_of a) r → IsRoleIn t r
-    of_axiom r c =
-        base_in r.base (names (base_property r.base)
-        (Contains-map_of (λ r. base_property r.base) (flat_map basic_roles (basics_of a) ++ flat_map part_roles (parts_of a) ++ roles_of a) r c))
-
-    role_of : (r : Role) → Contains (roles_of a) r → IsRoleIn t r
-    role_of r c =
-        of_axiom r (Contains-append_right (flat_map basic_roles (basics_of a) ++ flat_map part_roles (parts_of a)) (roles_of a) r c)
-
-    part_of : (p : Part) → Contains (parts_of a) p → IsPartIn t p
-    part_of p c =
-        part_in_it p
-        (λ n h. classes n (Contains-append_right (flat_map basic_classes (basics_of a)) (flat_map part_classes (parts_of a)) n (Contains-flat_map_of part_classes (parts_of a) p n c h)))
-        (λ r h. of_axiom r (Contains-append_left (flat_map basic_roles (basics_of a) ++ flat_map part_roles (parts_of a)) (roles_of a) r
-        (Contains-append_right (flat_map basic_roles (basics_of a)) (flat_map part_roles (parts_of a)) r (Contains-flat_map_of part_roles (parts_of a) p r c h))))
-
-    concept_of : (b : Basic) → Contains (basics_of a) b → IsConceptIn t b
-    concept_of b c =
-        concept_in_it b
-        (λ n h. classes n (Contains-append_left (flat_map basic_classes (basics_of a)) (flat_map part_classes (parts_of a)) n (Contains-flat_map_of basic_classes (basics_of a) b n c h)))
-        (λ r h. of_axiom r (Contains-append_left (flat_map basic_roles (basics_of a) ++ flat_map part_roles (parts_of a)) (roles_of a) r
-        (Contains-append_left (flat_map basic_roles (basics_of a)) (flat_map part_roles (parts_of a)) r (Contains-flat_map_of basic_roles (basics_of a) b r c h))))
-
-  each_of : {A : Type 0} (P : A → Type 0) (xs : List A) → ((x : A) → Contains xs x → P x) → All P xs
-  each_of P xs f = λ k d h. f _ (All-contains_itself xs k d h)
-
-  axiom_in : (a : Axiom) → ((c : ℕ) → Contains (item_classes (item.Axiom a)) c → Contains t.classes c)
-      → ((p : ℕ) → Contains (item_properties (item.Axiom a)) p → Contains t.roles p) → IsAxiomIn t a
-  axiom_in (SubClass b ps) cs rs = (concept_of (SubClass b ps) cs rs b (Contains-first b []), each_of (IsPartIn t) ps (part_of (SubClass b ps) cs rs))
-  axiom_in (EquivalentClasses bs) cs rs = each_of (IsConceptIn t) bs (concept_of (EquivalentClasses bs) cs rs)
-  axiom_in (DisjointClasses bs) cs rs = each_of (IsConceptIn t) bs (concept_of (DisjointClasses bs) cs rs)
-  axiom_in (SubRole r q) cs rs = (role_of (SubRole r q) cs rs r (Contains-first r (q ∷ [])), role_of (SubRole r q) cs rs q (Contains-later r q (q ∷ []) (Contains-first q [])))
-  axiom_in (EquivalentRoles ps) cs rs = each_of (IsRoleIn t) ps (role_of (EquivalentRoles ps) cs rs)
-  axiom_in (DisjointRoles ps) cs rs = each_of (IsRoleIn t) ps (role_of (DisjointRoles ps) cs rs)
-  axiom_in (InverseRoles r q) cs rs = (role_of (InverseRoles r q) cs rs r (Contains-first r (q ∷ [])), role_of (InverseRoles r q) cs rs q (Contains-later r q (q ∷ []) (Contains-first q [])))
-  axiom_in (Domain r ps) cs rs = (role_of (Domain r ps) cs rs r (Contains-first r []), each_of (IsPartIn t) ps (part_of (Domain r ps) cs rs))
-  axiom_in (Range r ps) cs rs = (role_of (Range r ps) cs rs r (Contains-first r []), each_of (IsPartIn t) ps (part_of (Range r ps) cs rs))
-  axiom_in (Symmetric r) cs rs = role_of (Symmetric r) cs rs r (Contains-first r [])
-  axiom_in (Asymmetric r) cs rs = role_of (Asymmetric r) cs rs r (Contains-first r [])
-  axiom_in (Irreflexive r) cs rs = role_of (Irreflexive r) cs rs r (Contains-first r [])
-
 -- the signature that an added axiom gives has its names
 added_in : (s : Signature) (a : Axiom) → IsAxiomIn (signature_with true (item.Axiom a) s) a
-added_in s a = axiom_in (signature_with true (item.Axiom a) s) a (gained (item_classes (item.Axiom a)) s.classes) (gained (item_properties (item.Axiom a)) s.roles)
+added_in s a =
+    axiom_is_in (signature_with true (item.Axiom a) s) a (each (item_classes (item.Axiom a)) s.classes)
+    (each (item_properties (item.Axiom a)) s.roles)
   where
     gained : (ys xs : List ℕ) (n : ℕ) → Contains ys n → Contains (with_items nat_cmp ys xs) n
     gained ys xs n c =
         there_has numbers_linear (with_items nat_cmp ys xs) n
         (has-with_items numbers_linear ys xs n ∙ ap (λ b. b || has nat_cmp xs n) (has_there numbers_linear ys n c))
+
+    each : (ys xs : List ℕ) → All (Contains (with_items nat_cmp ys xs)) ys
+    each ys xs = λ k d h. gained ys xs _ (All-contains_itself ys k d h)
 
 -- ---- after edits
 

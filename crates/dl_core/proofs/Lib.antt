@@ -28,3 +28,4 @@ pub mod LoadLemmas
 pub mod SaidLemmas
 pub mod KeyLemmas
 pub mod AxiomEditLemmas
+pub mod SignatureEditLemmas

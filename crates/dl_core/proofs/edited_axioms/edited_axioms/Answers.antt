@@ -3,7 +3,8 @@ use Rattle.std.specs.List.{list_any}
 use Rattle.dl_terms.specs.Fillers.{HasNoFiller}
 use Rattle.dl_core.specs.Decided.{is_axiom}
 use Rattle.dl_core.specs.Edits.{edited_axioms}
-use Rattle.dl_core.proofs.AxiomEditLemmas.{edited_none, edited_no_filler}
+use Rattle.dl_core.proofs.AxiomEditLemmas.{edited_none}
+use Rattle.dl_core.proofs.KnownLemmas.{edited_axioms-plain}
 use Rattle.dl_core.proofs.edited_axioms.edited_axioms.Goals as goal
 
 pub returns-then-not-edit_axioms-clause-edited : goal.returns-then-not-edit_axioms-clause-edited
@@ -15,4 +16,4 @@ returns-then-not-edit_axioms-clause-edited c =
 pub returns-clause-no_filler : goal.returns-clause-no_filler
 returns-clause-no_filler c all none =
     let is : c.of.result ≡ edited_axioms c.args.edits.now c.args.axioms.now = search rules in
-    subst (All HasNoFiller) (sym is) (edited_no_filler c.args.edits.now c.args.axioms.now all none)
+    subst (All HasNoFiller) (sym is) (edited_axioms-plain c.args.edits.now c.args.axioms.now none all)
