@@ -1,5 +1,5 @@
 // What edits make of a set of axioms.
-ghost use Rattle.std.specs.Prelude.{◌≡◌, All, IfOk, OnOk};
+ghost use Rattle.std.specs.Prelude.{◌≡◌, All, IfOk, OnOk, OnErr};
 ghost use Rattle.std.specs.List.{list_any};
 ghost use Rattle.std.specs.List.Sorted.{IsStrictlySortedBy};
 ghost use Rattle.dl_terms.specs.Fillers.{HasNoFiller};
@@ -27,7 +27,7 @@ pub(crate) fn edited_axioms(
         → IfOk result (λ after. All HasNoFiller after) }
 {
     // Most commits edit facts alone.
-    if !edit_axioms(edits) {
+    if !has_axiom(edits) {
         return copied_axioms(alloc, axioms);
     }
     let set = edited_set(alloc, axioms, edits)?;
@@ -37,7 +37,7 @@ pub(crate) fn edited_axioms(
 }
 
 /// Whether an edit is of an axiom.
-fn edit_axioms(edits: &[Edit]) -> bool
+fn has_axiom(edits: &[Edit]) -> bool
     ensures { result ≡ list_any (λ e. is_axiom e.item) edits.now }
 {
     for edit in edits {
@@ -55,7 +55,7 @@ fn edited_set(alloc: Global, axioms: &[Axiom], edits: &[Edit]) -> Result<BTreeSe
 {
     let mut set = axiom_set(alloc, axioms)?;
     for edit in edits {
-        edit_set(alloc, &mut set, edit)?;
+        make_edit(alloc, &mut set, edit)?;
     }
     Ok(set)
 }
@@ -76,10 +76,11 @@ fn axiom_set(alloc: Global, axioms: &[Axiom]) -> Result<BTreeSet<Axiom>, NoMemor
     Ok(set)
 }
 
-/// Makes one edit.
-fn edit_set(alloc: Global, set: &mut BTreeSet<Axiom>, edit: &Edit) -> Result<(), NoMemory>
+/// Makes one edit of the set. After `NoMemory` the set is as before.
+fn make_edit(alloc: Global, set: &mut BTreeSet<Axiom>, edit: &Edit) -> Result<(), NoMemory>
     requires { IsStrictlySortedBy axiom_cmp set.old.keys }
     ensures ok { OnOk result (set.new.keys ≡ axioms_with edit.now.add edit.now.item set.old.keys) }
+    ensures err { OnErr result (set.new.keys ≡ set.old.keys) }
     ensures ascending { IsStrictlySortedBy axiom_cmp set.new.keys }
 {
     axioms_are_ordered();

@@ -7,8 +7,8 @@ use Rattle.dl_core.proofs.AxiomEditLemmas.{edited_none}
 use Rattle.dl_core.proofs.KnownLemmas.{edited_axioms-plain}
 use Rattle.dl_core.proofs.edited_axioms.edited_axioms.Goals as goal
 
-pub returns-then-not-edit_axioms-clause-edited : goal.returns-then-not-edit_axioms-clause-edited
-returns-then-not-edit_axioms-clause-edited c =
+pub returns-then-not-has_axiom-clause-edited : goal.returns-then-not-has_axiom-clause-edited
+returns-then-not-has_axiom-clause-edited c =
     let none : list_any (λ e. is_axiom e.item) c.args.edits.now ≡ false = search rules in
     subst (λ axioms. IfOk c.copied_axioms.result (λ after. after ≡ axioms)) (sym (edited_none c.args.edits.now c.args.axioms.now none))
     c.copied_axioms.ensures

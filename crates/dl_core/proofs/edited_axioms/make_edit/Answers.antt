@@ -1,6 +1,6 @@
 use Rattle.std.proofs.Common.{rules}
 use Rattle.dl_core.proofs.AxiomEditLemmas.{key_added, key_removed}
-use Rattle.dl_core.proofs.edited_axioms.edit_set.Goals as goal
+use Rattle.dl_core.proofs.edited_axioms.make_edit.Goals as goal
 
 pub returns-then-not-edit-clause-ok : goal.returns-then-not-edit-clause-ok
 returns-then-not-edit-clause-ok c =
