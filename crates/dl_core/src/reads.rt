@@ -1,5 +1,5 @@
 // Readers of roots.
-ghost use Rattle.std.specs.Prelude.{◌≡◌, ◌<◌, IsSome, List as Items};
+ghost use Rattle.std.specs.Prelude.{◌≡◌, ◌<◌, ◌≤◌, IsSome, List as Items};
 ghost use Rattle.dl_core.specs.History.{Load, Entry};
 ghost use Rattle.dl_core.specs.Root.{pin_in};
 ghost use Rattle.dl_core.specs.Next.{Numbering};
@@ -23,9 +23,11 @@ pub trait Reads {
         ensures pin { result ≡ pin_shown (reader self.now) }
         ensures held { pin_in (reader self.now).root.pins (reader self.now).stream ≡ (reader self.now).pin };
 
-    /// How many shards there are.
+    /// How many shards there are, from 1 to 64.
     fn shards(&self) -> u32
-        ensures { result ≡ (reader self.now).root.shards };
+        ensures count { result ≡ (reader self.now).root.shards }
+        ensures some { 1 ≤ result }
+        ensures few { result ≤ 64 };
 
     /// Comes to the root after a list of events that begins with all that this reader has seen, and in which its pin is
     /// still there; and fetches a shard of it. A pin is there, and the shard is in range.
