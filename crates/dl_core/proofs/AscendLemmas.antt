@@ -49,7 +49,7 @@ module _ {A : Type 0} {cmp : A → A → Ordering} (l : IsLinear cmp) where
       rest : (y : A) → cond (is_eq (cmp y x)) 1 0 + count (λ z. is_eq (cmp y z)) xs ≤ 1 → count (λ z. is_eq (cmp y z)) xs ≤ 1
       rest y h = omega (arith, h)
 
-  with_item-ascends : (x : A) (xs : List A) → Ascends cmp xs → Ascends cmp (with_item cmp x xs)
+  pub with_item-ascends : (x : A) (xs : List A) → Ascends cmp xs → Ascends cmp (with_item cmp x xs)
   with_item-ascends x xs up = by (has cmp xs x)
     where
       by : (b : Bool) → Ascends cmp (cond b xs (put cmp x xs))

@@ -29,3 +29,8 @@ pub mod SaidLemmas
 pub mod KeyLemmas
 pub mod AxiomEditLemmas
 pub mod SignatureEditLemmas
+pub mod PlaceLemmas
+pub mod FoundLemmas
+pub mod ChangeLemmas
+pub mod ShardChangeLemmas
+pub mod CommittedLemmas

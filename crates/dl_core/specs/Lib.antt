@@ -9,3 +9,5 @@ pub mod Examples
 pub mod Held
 pub mod Loading
 pub mod Decided
+pub mod Changes
+pub mod Committing

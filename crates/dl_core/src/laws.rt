@@ -16,8 +16,6 @@ ghost use Rattle.dl_core.specs.Root.{RowsSay, StandsFor, IsLoad};
 ghost use Rattle.dl_core.specs.Next.{Numbering, committed, committed_epoch, ended, new_facts, root_facts, IsNumbering};
 ghost use Rattle.dl_core.specs.Next.{IsReady, GoesByRule, loaded, next, row_for, committed_rows};
 ghost use Rattle.dl_core.specs.Loading.{IsLoadOf};
-ghost use Rattle.dl_core.specs.Legal.{asked, IsLegal, IsLegalFrom, root_of};
-ghost use Rattle.dl_core.specs.Next.{IsReady, loaded, next, row_for, committed_rows};
 ghost use Rattle.dl_core.specs.Legal.{asked, IsLegal, IsLegalFrom, root_of, Reader, ReaderStandsFor};
 ghost use Rattle.dl_core.specs.declared.event.Edit.{Edit};
 ghost use Rattle.dl_core.specs.declared.event.Event.{Event};
@@ -115,6 +113,8 @@ pub fn lists_are_one_load()
         → (l : Load) × IsLoadOf axioms signature facts shards l }
     ensures one { (axioms : List Axiom) (signature : Signature) (facts : List Fact) (shards : ℕ) (l m : Load)
         → IsLoadOf axioms signature facts shards l → IsLoadOf axioms signature facts shards m → l ≡ m }
+{}
+
 /// A reader with a pin reads what the pinned version has, by each list of entries that it stands for.
 pub fn readers_read_their_pins()
     ensures { (numbering : Numbering) (l : Load) (seen : List Entry) (reader : Reader) (v : ℕ) → IsNumbering numbering

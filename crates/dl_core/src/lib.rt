@@ -3,6 +3,10 @@
 #![tactic(auto)]
 
 mod book;
+mod changes;
+mod commit;
+mod committed;
+mod committed_shard;
 mod copies;
 mod counts;
 mod edited_axioms;
@@ -11,14 +15,17 @@ mod edited_signature;
 mod event;
 mod fault;
 mod first_root;
+mod found;
 mod held;
 pub mod laws;
+mod limits;
 mod loaded_shards;
 mod look;
 mod new_rows;
+mod ontology;
+mod opening;
 mod pins;
 mod reads;
-mod opening;
 mod reply;
 mod root;
 mod root_reads;

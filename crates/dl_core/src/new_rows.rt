@@ -5,6 +5,7 @@ ghost use Rattle.dl_epoch.specs.Frozen.{from_version};
 ghost use Rattle.dl_core.specs.Next.{row_for};
 ghost use Rattle.dl_core.specs.Loading.{IsFactIn, AreParts};
 
+use crate::found::first_end;
 use dl_epoch::Epoch;
 use dl_row::{Kind, OPEN, Row};
 use dl_terms::{Fact, List, NoMemory};
@@ -55,14 +56,6 @@ fn counts_by_shard(alloc: Global, facts: &[Fact], shards: u32) -> Result<Vec<usi
         counts[shard] = counts[shard].saturating_add(1);
     }
     Ok(counts)
-}
-
-/// The individual of a class fact, or from whom a role leads.
-fn first_end(fact: Fact) -> u32 {
-    match fact {
-        Fact::Is { who, .. } => who,
-        Fact::Link { from, .. } => from,
-    }
 }
 
 /// The row of a fact: its predicate by its number in the epoch, visible from a version on.
