@@ -34,3 +34,4 @@ pub mod FoundLemmas
 pub mod ChangeLemmas
 pub mod ShardChangeLemmas
 pub mod CommittedLemmas
+pub mod StepLemmas

@@ -11,3 +11,4 @@ pub mod Loading
 pub mod Decided
 pub mod Changes
 pub mod Committing
+pub mod Steps
