@@ -47,7 +47,8 @@ slice_there : {A : Type 0} (xs : List A) (k : ℕ) (x : A) → slice_get xs k �
 slice_there xs k x e = (k, slice_get_within xs k x e, get_or_from_slice_get xs k x x e)
 
 -- of items that pass a test there is one at most, so they stand at one place
-two_places : {A : Type 0} (p : A → Bool) (xs : List A) (i j : ℕ) (x y : A) → slice_get xs i ≡ Some x → slice_get xs j ≡ Some y → p x ≡ true → p y ≡ true
+two_places : {A : Type 0} (p : A → Bool) (xs : List A) (i j : ℕ) (x y : A) → slice_get xs i ≡ Some x
+    → slice_get xs j ≡ Some y → p x ≡ true → p y ≡ true
     → count p xs ≤ 1 → i ≡ j
 two_places p [] i j x y a b px py h = cc
 two_places p (z ∷ xs) zero zero x y a b px py h = refl
@@ -67,24 +68,29 @@ module _ (root : Root) (sound : IsSound root) (ready : IsReady root) (f : Fact) 
   seen r c last stands =
       let row = All-Contains (IsRowAt (epochs root) root.version) root.rows r sound.stands.rows_are.each c in
       ap₂ (λ a b. a && b)
-      (ap₂ (λ a b. a && b) (le_true r.first root.version row.begins) (ap (nat_lt root.version) last ∙ lt_true root.version open_end (omega (arith, ready))))
+      (ap₂ (λ a b. a && b) (le_true r.first root.version row.begins)
+      (ap (nat_lt root.version) last ∙ lt_true root.version open_end (omega (arith, ready))))
       (ap (is_fact f) stands ∙ same_itself facts_linear f)
 
   row_in : (place : ℕ) (s : StandsAt root f place) → Contains root.rows s.row
-  row_in place s = Contains-filter (stands_in root.shards (shard_of root f)) root.rows s.row (slice_there (shard root (shard_of root f)) place s.row s.at)
+  row_in place s = Contains-filter (stands_in root.shards (shard_of root f)) root.rows s.row
+      (slice_there (shard root (shard_of root f)) place s.row s.at)
 
-  row_seen : (place : ℕ) (s : StandsAt root f place) → (visible root.version s.row && is_fact f (fact_of (epochs root) s.row)) ≡ true
+  row_seen : (place : ℕ) (s : StandsAt root f place)
+      → (visible root.version s.row && is_fact f (fact_of (epochs root) s.row)) ≡ true
   row_seen place s = seen s.row (row_in place s) s.is_open s.stands
 
   -- a fact with an open row is there
   pub stands_there : (place : ℕ) → StandsAt root f place → has fact_cmp (root_facts root) f ≡ true
   stands_there place s =
-      let n = there_counts (λ r. visible root.version r && is_fact f (fact_of (epochs root) r)) root.rows s.row (row_in place s) (row_seen place s) in
+      let n = there_counts (λ r. visible root.version r && is_fact f (fact_of (epochs root) r)) root.rows s.row
+      (row_in place s) (row_seen place s) in
       let one = visible_say (epochs root) root.rows root.version (facts_at sound.load sound.history root.version)
       (sound.stands.reads root.version (IsLive.current refl)).facts_are f in
       some (has fact_cmp (root_facts root) f) n one
     where
-      some : (b : Bool) → 1 ≤ rows_for (epochs root) root.rows root.version f → rows_for (epochs root) root.rows root.version f ≡ cond b 1 0 → b ≡ true
+      some : (b : Bool) → 1 ≤ rows_for (epochs root) root.rows root.version f
+          → rows_for (epochs root) root.rows root.version f ≡ cond b 1 0 → b ≡ true
       some true n e = refl
       some false n e = absurd (omega (arith, n, e))
 
@@ -92,31 +98,44 @@ module _ (root : Root) (sound : IsSound root) (ready : IsReady root) (f : Fact) 
   pub one_place : (p q : ℕ) → StandsAt root f p → StandsAt root f q → q ≡ p
   one_place p q s t =
       let most = sound.stands.rows_are.once root.version (omega arith) f in
-      let part = count-filter_le (λ r. visible root.version r && is_fact f (fact_of (epochs root) r)) (stands_in root.shards (shard_of root f)) root.rows in
-      two_places (λ r. visible root.version r && is_fact f (fact_of (epochs root) r)) (shard root (shard_of root f)) q p t.row s.row t.at s.at
+      let part = count-filter_le (λ r. visible root.version r && is_fact f (fact_of (epochs root) r))
+      (stands_in root.shards (shard_of root f)) root.rows in
+      two_places (λ r. visible root.version r && is_fact f (fact_of (epochs root) r))
+      (shard root (shard_of root f)) q p t.row s.row t.at s.at
       (row_seen q t) (row_seen p s) (omega (arith, most, part))
 
-  pub there_is : (o : Option ℕ) → MatchOption o (has fact_cmp (root_facts root) f ≡ false) (StandsAt root f) → is_some o ≡ has fact_cmp (root_facts root) f
+  pub there_is : (o : Option ℕ) → MatchOption o (has fact_cmp (root_facts root) f ≡ false) (StandsAt root f)
+      → is_some o ≡ has fact_cmp (root_facts root) f
   there_is None h = sym h
   there_is (Some place) s = sym (stands_there place s)
 
   pub here_is : (i end shards : ℕ) (o : Option ℕ) → end ≡ first_end f → shards ≡ root.shards → end % shards ≡ i
-      → MatchOption o (has fact_cmp (root_facts root) f ≡ false) (StandsAt root f) → MatchOption o (NoneHere root i f) (OneHere root i f)
+      → MatchOption o (has fact_cmp (root_facts root) f ≡ false) (StandsAt root f)
+      → MatchOption o (NoneHere root i f) (OneHere root i f)
   here_is i end shards None e n h none =
       record { none = λ place is s. true≢false (sym (stands_there place s) ∙ none) }
   here_is i end shards (Some place) e n h s =
       record { here = sym (ap₂ (λ x m. x % m) e n) ∙ h; stands = s; only = λ other t. one_place place other s t }
 
-pub not_here : (root : Root) (f : Fact) (i end shards : ℕ) → end ≡ first_end f → shards ≡ root.shards → (end % shards ≡ i → ⊥) → NoneHere root i f
+pub not_here : (root : Root) (f : Fact) (i end shards : ℕ) → end ≡ first_end f → shards ≡ root.shards
+    → (end % shards ≡ i → ⊥) → NoneHere root i f
 not_here root f i end shards e n other = record { none = λ place is s. other (ap₂ (λ x m. x % m) e n ∙ is) }
 
 -- ---- places, one fact after the other
 
-module _ (root : Root) (i : ℕ) (facts : List Fact) (places : List ℕ) (are : (p : ℕ) → Contains places p ↔ IsPlaceIn root i facts p) (f : Fact) where
+module _ (root : Root) (i : ℕ) (facts : List Fact) (places : List ℕ)
+    (are : (p : ℕ) → Contains places p ↔ IsPlaceIn root i facts p) (f : Fact) where
   earlier : (p : ℕ) → IsPlaceIn root i facts p → IsPlaceIn root i (facts ++ f ∷ []) p
-  earlier p s = record { fact = s.fact; among = Contains-append_left facts (f ∷ []) s.fact s.among; here = s.here; stands = s.stands }
+  earlier p s = record {
+    fact = s.fact;
+    among = Contains-append_left facts (f ∷ []) s.fact s.among;
+    here =
+        s.here;
+    stands = s.stands;
+  }
 
-  pub places_more : (place : ℕ) → OneHere root i f place → (p : ℕ) → Contains (places ++ place ∷ []) p ↔ IsPlaceIn root i (facts ++ f ∷ []) p
+  pub places_more : (place : ℕ) → OneHere root i f place → (p : ℕ)
+      → Contains (places ++ place ∷ []) p ↔ IsPlaceIn root i (facts ++ f ∷ []) p
   places_more place one p = (to, from)
     where
       to : Contains (places ++ place ∷ []) p → IsPlaceIn root i (facts ++ f ∷ []) p
@@ -124,14 +143,22 @@ module _ (root : Root) (i : ℕ) (facts : List Fact) (places : List ℕ) (are : 
         where
           by : Contains places p ⊎ (place ≡ p) → IsPlaceIn root i (facts ++ f ∷ []) p
           by (inl before) = earlier p ((are p).0 before)
-          by (inr same) = record { fact = f; among = Contains-push facts f; here = one.here; stands = subst (StandsAt root f) same one.stands }
+          by (inr same) = record {
+            fact = f;
+            among = Contains-push facts f;
+            here = one.here;
+            stands =
+                subst (StandsAt root f) same one.stands;
+          }
 
       from : IsPlaceIn root i (facts ++ f ∷ []) p → Contains (places ++ place ∷ []) p
       from s = by (Contains-push_cases facts f s.fact s.among)
         where
           by : Contains facts s.fact ⊎ (f ≡ s.fact) → Contains (places ++ place ∷ []) p
-          by (inl before) = Contains-append_left places (place ∷ []) p ((are p).1 (record { fact = s.fact; among = before; here = s.here; stands = s.stands }))
-          by (inr same) = subst (Contains (places ++ place ∷ [])) (sym (one.only p (subst (λ g. StandsAt root g p) (sym same) s.stands))) (Contains-push places place)
+          by (inl before) = Contains-append_left places (place ∷ []) p
+              ((are p).1 (record { fact = s.fact; among = before; here = s.here; stands = s.stands }))
+          by (inr same) = subst (Contains (places ++ place ∷ []))
+              (sym (one.only p (subst (λ g. StandsAt root g p) (sym same) s.stands))) (Contains-push places place)
 
   pub places_same : NoneHere root i f → (p : ℕ) → Contains places p ↔ IsPlaceIn root i (facts ++ f ∷ []) p
   places_same none p = (λ c. earlier p ((are p).0 c), from)
@@ -142,7 +169,8 @@ module _ (root : Root) (i : ℕ) (facts : List Fact) (places : List ℕ) (are : 
           by : Contains facts s.fact ⊎ (f ≡ s.fact) → Contains places p
           by (inl before) = (are p).1 (record { fact = s.fact; among = before; here = s.here; stands = s.stands })
           by (inr same) =
-              absurd (none.none p (subst (λ g. shard_of root g ≡ i) (sym same) s.here) (subst (λ g. StandsAt root g p) (sym same) s.stands))
+              absurd (none.none p (subst (λ g. shard_of root g ≡ i) (sym same) s.here)
+              (subst (λ g. StandsAt root g p) (sym same) s.stands))
 
 pub no_places : (root : Root) (i p : ℕ) → Contains [] p ↔ IsPlaceIn root i [] p
 no_places root i p = (λ c. absurd (Contains-nil p c), λ s. absurd (Contains-nil s.fact s.among))
@@ -156,7 +184,8 @@ module _ {A : Type 0} {cmp : A → A → Ordering} (l : IsLinear cmp) where
 
 facts_with_up : (add : Bool) (i : Item) (xs : List Fact) → Ascends fact_cmp xs → Ascends fact_cmp (facts_with add i xs)
 facts_with_up true (item.Fact f) xs up = with_item-ascends facts_linear f xs up
-facts_with_up false (item.Fact f) xs up = InOrder-filter (λ x y. is_gt (fact_cmp x y) ≡ false) (λ y. not (is_eq (fact_cmp f y))) xs up
+facts_with_up false (item.Fact f) xs up = InOrder-filter (λ x y. is_gt (fact_cmp x y) ≡ false)
+    (λ y. not (is_eq (fact_cmp f y))) xs up
 facts_with_up true (item.Axiom a) xs up = up
 facts_with_up true (item.Class c) xs up = up
 facts_with_up true (item.Property p) xs up = up
@@ -166,23 +195,28 @@ facts_with_up false (item.Property p) xs up = up
 
 edited_facts_up : (edits : List Edit) (xs : List Fact) → Ascends fact_cmp xs → Ascends fact_cmp (edited_facts edits xs)
 edited_facts_up [] xs up = up
-edited_facts_up (e ∷ edits) xs up = edited_facts_up edits (facts_with e.add e.item xs) (facts_with_up e.add e.item xs up)
+edited_facts_up (e ∷ edits) xs up = edited_facts_up edits (facts_with e.add e.item xs)
+    (facts_with_up e.add e.item xs up)
 
-each_picked : {A B : Type 0} (P : B → Type 0) (g : A → B) (q : A → Bool) (xs : List A) → AllByRecursion P (map g xs) → AllByRecursion P (map g (filter q xs))
+each_picked : {A B : Type 0} (P : B → Type 0) (g : A → B) (q : A → Bool) (xs : List A) → AllByRecursion P (map g xs)
+    → AllByRecursion P (map g (filter q xs))
 each_picked P g q [] all = tt
 each_picked P g q (x ∷ xs) all = by (q x) (each_picked P g q xs all.1)
   where
-    by : (b : Bool) → AllByRecursion P (map g (filter q xs)) → AllByRecursion P (map g (cond b (x ∷ filter q xs) (filter q xs)))
+    by : (b : Bool) → AllByRecursion P (map g (filter q xs))
+        → AllByRecursion P (map g (cond b (x ∷ filter q xs) (filter q xs)))
     by true ih = (all.0, ih)
     by false ih = ih
 
-sorted_picked : {A B : Type 0} (cmp : B → B → Ordering) (g : A → B) (q : A → Bool) (xs : List A) → IsStrictlySortedBy cmp (map g xs)
+sorted_picked : {A B : Type 0} (cmp : B → B → Ordering) (g : A → B) (q : A → Bool) (xs : List A)
+    → IsStrictlySortedBy cmp (map g xs)
     → IsStrictlySortedBy cmp (map g (filter q xs))
 unfolding IsStrictlySortedBy
 sorted_picked cmp g q [] up = tt
 sorted_picked {A} {B} cmp g q (x ∷ xs) up = by (q x) (sorted_picked cmp g q xs up.1)
   where
-    by : (b : Bool) → IsStrictlySortedBy cmp (map g (filter q xs)) → IsStrictlySortedBy cmp (map g (cond b (x ∷ filter q xs) (filter q xs)))
+    by : (b : Bool) → IsStrictlySortedBy cmp (map g (filter q xs))
+        → IsStrictlySortedBy cmp (map g (cond b (x ∷ filter q xs) (filter q xs)))
     by true ih = (each_picked (λ y. cmp (g x) y ≡ Less) g q xs up.0, ih)
     by false ih = ih
 
@@ -199,14 +233,17 @@ module _ (edits : List Edit) (ds : List (Fact × Bool)) (up : IsStrictlySortedBy
       → (to : Bool) × Contains ds (f, to) × (turns come to (has fact_cmp (root_facts root) f) ≡ true)
   picked come f c =
       let d = Contains-map (λ d. d.0) (filter (λ d. turns come d.1 (has fact_cmp (root_facts root) d.0)) ds) f c in
-      let passes = All-Contains (λ d. turns come d.1 (has fact_cmp (root_facts root) d.0) ≡ true) (filter (λ d. turns come d.1 (has fact_cmp (root_facts root) d.0)) ds) d.0
+      let passes = All-Contains (λ d. turns come d.1 (has fact_cmp (root_facts root) d.0) ≡ true)
+      (filter (λ d. turns come d.1 (has fact_cmp (root_facts root) d.0)) ds) d.0
       (filter_passes (λ d. turns come d.1 (has fact_cmp (root_facts root) d.0)) ds) d.1 in (
         d.0.1,
-        subst (λ g. Contains ds (g, d.0.1)) d.2 (Contains-filter (λ d. turns come d.1 (has fact_cmp (root_facts root) d.0)) ds d.0 d.1),
+        subst (λ g. Contains ds (g, d.0.1)) d.2
+            (Contains-filter (λ d. turns come d.1 (has fact_cmp (root_facts root) d.0)) ds d.0 d.1),
         subst (λ g. turns come d.0.1 (has fact_cmp (root_facts root) g) ≡ true) d.2 passes,
       )
 
-  pick : (come : Bool) (f : Fact) (to : Bool) → Contains ds (f, to) → turns come to (has fact_cmp (root_facts root) f) ≡ true
+  pick : (come : Bool) (f : Fact) (to : Bool) → Contains ds (f, to)
+      → turns come to (has fact_cmp (root_facts root) f) ≡ true
       → Contains (turned come (root_facts root) ds) f
   pick come f to c passes =
       Contains-map_of (λ d. d.0) (filter (λ d. turns come d.1 (has fact_cmp (root_facts root) d.0)) ds) (f, to)
@@ -216,7 +253,8 @@ module _ (edits : List Edit) (ds : List (Fact × Bool)) (up : IsStrictlySortedBy
   decides f to c = edits_decide edits (root_facts root) f ∙ ((exact f to).0 c).last (has fact_cmp (root_facts root) f)
 
   -- a fact that is there afterwards as it wasn't before is decided
-  changed : (f : Fact) (to : Bool) → has fact_cmp (edited_facts edits (root_facts root)) f ≡ to → has fact_cmp (root_facts root) f ≡ not to → Contains ds (f, to)
+  changed : (f : Fact) (to : Bool) → has fact_cmp (edited_facts edits (root_facts root)) f ≡ to
+      → has fact_cmp (root_facts root) f ≡ not to → Contains ds (f, to)
   changed f to is was = by (list_any (λ e. names_fact f e.item) edits) refl
     where
       flips : (b : Bool) → b ≡ not b → ⊥
@@ -226,33 +264,42 @@ module _ (edits : List Edit) (ds : List (Fact × Bool)) (up : IsStrictlySortedBy
       by : (b : Bool) → list_any (λ e. names_fact f e.item) edits ≡ b → Contains ds (f, to)
       by true e =
           let d = named_decided edits f e in
-          let same = sym (d.1.last (has fact_cmp (root_facts root) f)) ∙ sym (edits_decide edits (root_facts root) f) ∙ is in
+          let same = sym (d.1.last (has fact_cmp (root_facts root) f)) ∙ sym (edits_decide edits (root_facts root) f)
+          ∙ is in
           (exact f to).1 (subst (Decide edits f) same d.1)
       by false e =
-          absurd (flips to (sym is ∙ edits_decide edits (root_facts root) f ∙ unnamed_stays edits f (has fact_cmp (root_facts root) f) e ∙ was))
+          absurd (flips to (sym is ∙ edits_decide edits (root_facts root) f
+          ∙ unnamed_stays edits f (has fact_cmp (root_facts root) f) e ∙ was))
 
   -- those that come are the new facts, in the same order
   pub new_are : turned true (root_facts root) ds ≡ new_facts (root_facts root) (edited_facts edits (root_facts root))
-  new_are = sorted_unique facts_linear (turned true (root_facts root) ds) (new_facts (root_facts root) (edited_facts edits (root_facts root)))
+  new_are = sorted_unique facts_linear (turned true (root_facts root) ds)
+      (new_facts (root_facts root) (edited_facts edits (root_facts root)))
       (sorted_picked fact_cmp (λ d. d.0) (λ d. turns true d.1 (has fact_cmp (root_facts root) d.0)) ds up)
-      (IsStrictlySortedBy-filter fact_cmp (λ f. not (has fact_cmp (root_facts root) f)) (edited_facts edits (root_facts root))
-      (strictly_sorted facts_linear (edited_facts edits (root_facts root)) (edited_facts_up edits (root_facts root) facts_up)
+      (IsStrictlySortedBy-filter fact_cmp (λ f. not (has fact_cmp (root_facts root) f))
+      (edited_facts edits (root_facts root))
+      (strictly_sorted facts_linear (edited_facts edits (root_facts root))
+      (edited_facts_up edits (root_facts root) facts_up)
       (edited_facts_once edits (root_facts root) (visible_once (epochs root) root.rows root.version))))
       to from
     where
       facts_up : Ascends fact_cmp (root_facts root)
-      facts_up = with_items-ascends facts_linear (filter_map (fact_of (epochs root)) (filter (visible root.version) root.rows)) [] tt
+      facts_up = with_items-ascends facts_linear
+          (filter_map (fact_of (epochs root)) (filter (visible root.version) root.rows)) [] tt
 
-      to : (f : Fact) → Contains (turned true (root_facts root) ds) f → Contains (new_facts (root_facts root) (edited_facts edits (root_facts root))) f
+      to : (f : Fact) → Contains (turned true (root_facts root) ds) f
+          → Contains (new_facts (root_facts root) (edited_facts edits (root_facts root))) f
       to f c =
           let p = picked true f c in
           let parts = and_parts p.0 (not (has fact_cmp (root_facts root) f)) p.2 in
           Contains-filter_of (λ g. not (has fact_cmp (root_facts root) g)) (edited_facts edits (root_facts root)) f
           (there_has facts_linear (edited_facts edits (root_facts root)) f (decides f p.0 p.1 ∙ parts.0)) parts.1
 
-      from : (f : Fact) → Contains (new_facts (root_facts root) (edited_facts edits (root_facts root))) f → Contains (turned true (root_facts root) ds) f
+      from : (f : Fact) → Contains (new_facts (root_facts root) (edited_facts edits (root_facts root))) f
+          → Contains (turned true (root_facts root) ds) f
       from f c =
-          let passes = All-Contains (λ g. not (has fact_cmp (root_facts root) g) ≡ true) (new_facts (root_facts root) (edited_facts edits (root_facts root))) f
+          let passes = All-Contains (λ g. not (has fact_cmp (root_facts root) g) ≡ true)
+          (new_facts (root_facts root) (edited_facts edits (root_facts root))) f
           (filter_passes (λ g. not (has fact_cmp (root_facts root) g)) (edited_facts edits (root_facts root))) c in
           let was = not-true (has fact_cmp (root_facts root) f) passes in
           let is = has_there facts_linear (edited_facts edits (root_facts root)) f

@@ -57,20 +57,31 @@ use Rattle.dl_core.proofs.ShardLemmas.{shard-committed, filter-map}
 
 -- ---- the ontology
 
-pub buildable : (root : Root) (o : Ontology) (a : IsAccepted root o) (k : Kept) → epoch_in k ≡ root.current → IsFrozen k.epoch → IsBuildable o
+pub buildable : (root : Root) (o : Ontology) (a : IsAccepted root o) (k : Kept) → epoch_in k ≡ root.current
+    → IsFrozen k.epoch → IsBuildable o
 buildable root o a k current frozen =
     let within = not_refused root a.edits a.accepted in
     let axioms = sym a.edited.axioms in
     let signature = sym a.edited.signature in
     record {
-      ascending = subst (IsStrictlySortedBy axiom_cmp) axioms (edited_axioms-sorted a.edits root.current.axioms (subst (λ e. IsStrictlySortedBy axiom_cmp e.axioms) current frozen.ascending));
-      plain = subst (All HasNoFiller) axioms (edited_axioms-plain a.edits root.current.axioms a.plain (subst (λ e. All HasNoFiller e.axioms) current frozen.no_filler));
-      known = subst (λ s. All (IsAxiomIn s) o.axioms) signature (subst (All (IsAxiomIn (edited_signature a.edits root.current.signature))) axioms
-          (edited_axioms-known a.edits root.current.signature root.current.axioms (subst (λ e. All (IsAxiomIn e.signature) e.axioms) current frozen.known)));
-      signature = subst IsSignature signature (edited_signature-sorted a.edits root.current.signature (subst (λ e. IsSignature e.signature) current frozen.signature));
+      ascending = subst (IsStrictlySortedBy axiom_cmp) axioms
+          (edited_axioms-sorted a.edits root.current.axioms
+          (subst (λ e. IsStrictlySortedBy axiom_cmp e.axioms) current frozen.ascending));
+      plain = subst (All HasNoFiller) axioms
+          (edited_axioms-plain a.edits root.current.axioms a.plain
+          (subst (λ e. All HasNoFiller e.axioms) current frozen.no_filler));
+      known = subst (λ s. All (IsAxiomIn s) o.axioms) signature
+          (subst (All (IsAxiomIn (edited_signature a.edits root.current.signature))) axioms
+          (edited_axioms-known a.edits root.current.signature root.current.axioms
+          (subst (λ e. All (IsAxiomIn e.signature) e.axioms) current frozen.known)));
+      signature = subst IsSignature signature
+          (edited_signature-sorted a.edits root.current.signature
+          (subst (λ e. IsSignature e.signature) current frozen.signature));
       weight = subst (λ axioms. total_weight axioms ≤ max_weight) axioms within.weights;
-      few = subst (λ s. ArePredicatesFew s o.axioms) signature (subst (ArePredicatesFew (edited_signature a.edits root.current.signature)) axioms
-          (predicates_few (edited_signature a.edits root.current.signature) (edited_axioms a.edits root.current.axioms) within.predicates));
+      few = subst (λ s. ArePredicatesFew s o.axioms) signature
+          (subst (ArePredicatesFew (edited_signature a.edits root.current.signature)) axioms
+          (predicates_few (edited_signature a.edits root.current.signature)
+          (edited_axioms a.edits root.current.axioms) within.predicates));
     }
 
 -- ---- the current entry
@@ -84,14 +95,17 @@ count_le {A} p (x ∷ xs) = by (p x) (count_le p xs)
     by false ih = omega (arith, ih)
 
 -- a new epoch is the one that the commit opens
-pub opened_epoch : (root : Root) (o : Ontology) (numbering : Numbering) → GoesByRule numbering → (a : IsAccepted root o) → o.opens ≡ true
-    → (id first rows : ℕ) (k : Kept) → id ≡ root.current.id + 1 → first ≡ root.version + 1 → IsNewEntry id first o rows k
+pub opened_epoch : (root : Root) (o : Ontology) (numbering : Numbering) → GoesByRule numbering
+    → (a : IsAccepted root o) → o.opens ≡ true
+    → (id first rows : ℕ) (k : Kept) → id ≡ root.current.id + 1 → first ≡ root.version + 1
+    → IsNewEntry id first o rows k
     → epoch_in k ≡ committed_epoch numbering root a.edits
 opened_epoch root o numbering rule a opened id first rows k id_is first_is new =
     ap (λ f. from_version f k.epoch) (new.first_is ∙ first_is)
     ∙ ruled_epoch numbering rule k.epoch new.frozen (root.version + 1)
     ∙ made (new.id_is ∙ id_is) (new.axioms ∙ a.edited.axioms) (new.signature ∙ a.edited.signature)
-    ∙ ap (λ b. cond b (epoch_from numbering (root.current.id + 1) (root.version + 1) (edited_axioms a.edits root.current.axioms)
+    ∙ ap (λ b. cond b (epoch_from numbering (root.current.id + 1) (root.version + 1)
+    (edited_axioms a.edits root.current.axioms)
     (edited_signature a.edits root.current.signature)) root.current) (sym opened ∙ a.edited.opens)
   where
     made : {i i' : ℕ} {xs ys : List Axiom} {s t : Signature} → i ≡ i' → xs ≡ ys → s ≡ t
@@ -102,7 +116,8 @@ opened_epoch root o numbering rule a opened id first rows k id_is first_is new =
 pub stayed_epoch : (root : Root) (o : Ontology) (numbering : Numbering) (a : IsAccepted root o) → o.opens ≡ false
     → root.current ≡ committed_epoch numbering root a.edits
 stayed_epoch root o numbering a closed =
-    ap (λ b. cond b (epoch_from numbering (root.current.id + 1) (root.version + 1) (edited_axioms a.edits root.current.axioms)
+    ap (λ b. cond b (epoch_from numbering (root.current.id + 1) (root.version + 1)
+    (edited_axioms a.edits root.current.axioms)
     (edited_signature a.edits root.current.signature)) root.current) (sym closed ∙ a.edited.opens)
 
 -- ---- the entries
@@ -110,8 +125,10 @@ stayed_epoch root o numbering a closed =
 before_last : {A : Type 0} (n : ℕ) (xs ys : List A) → n ≡ length xs → take n (xs ++ ys) ≡ xs
 before_last n xs ys e = take-append-le n xs ys (omega (arith, e)) ∙ take_all n xs (omega (arith, e))
 
-pub entries_are : (root : Root) (book : Book) → IsBookOf root book → (opened : Bool) (n : ℕ) → n + cond opened 0 1 ≡ length book.epochs
-    → (current : Kept) (entries : List Kept) → entries ≡ take n book.epochs ++ current ∷ [] → AreEntriesAfter root opened current entries
+pub entries_are : (root : Root) (book : Book) → IsBookOf root book → (opened : Bool) (n : ℕ)
+    → n + cond opened 0 1 ≡ length book.epochs
+    → (current : Kept) (entries : List Kept) → entries ≡ take n book.epochs ++ current ∷ []
+    → AreEntriesAfter root opened current entries
 entries_are root book tells opened n as_many current entries are = record {
   older = take n book.epochs;
   are = are;
@@ -140,12 +157,15 @@ some_entries root book tells =
 
 -- ---- the shards
 
-pub no_shards : (root : Root) (gone : List Fact) (new : List (List Row)) (version : ℕ) → AreShardsAfter root gone new version 0 []
+pub no_shards : (root : Root) (gone : List Fact) (new : List (List Row)) (version : ℕ)
+    → AreShardsAfter root gone new version 0 []
 no_shards root gone new version = record { as_many = refl; each = λ after are i h. absurd (omega (arith, h)) }
 
-pub shard_more : (root : Root) (gone : List Fact) (new : List (List Row)) (version n : ℕ) (values : List (List Row)) (value : List Row)
+pub shard_more : (root : Root) (gone : List Fact) (new : List (List Row)) (version n : ℕ) (values : List (List Row))
+    (value : List Row)
     → AreShardsAfter root gone new version n values
-    → ((after : List Fact) → AreGone root after gone → value ≡ ordered row_cmp (map (ended (epochs root) after version) (shard root n) ++ get_or new n []))
+    → ((after : List Fact) → AreGone root after gone
+    → value ≡ ordered row_cmp (map (ended (epochs root) after version) (shard root n) ++ get_or new n []))
     → AreShardsAfter root gone new version (n + 1) (values ++ value ∷ [])
 shard_more root gone new version n values value so_far is = record {
   as_many = let a = so_far.as_many in let b = length_push values value in omega (arith, a, b);
@@ -153,10 +173,12 @@ shard_more root gone new version n values value so_far is = record {
 }
   where
     by : (after : List Fact) → AreGone root after gone → (i : ℕ) → (i ≡ n) ⊎ (i ≡ n → ⊥) → i < n + 1
-        → get_or (values ++ value ∷ []) i [] ≡ ordered row_cmp (map (ended (epochs root) after version) (shard root i) ++ get_or new i [])
+        → get_or (values ++ value ∷ []) i [] ≡ ordered row_cmp
+        (map (ended (epochs root) after version) (shard root i) ++ get_or new i [])
     by after are i (inl e) h =
         ap (λ k. get_or (values ++ value ∷ []) k []) (e ∙ sym so_far.as_many) ∙ at_end values
-        ∙ is after are ∙ ap (λ k. ordered row_cmp (map (ended (epochs root) after version) (shard root k) ++ get_or new k [])) (sym e)
+        ∙ is after are ∙ ap (λ k. ordered row_cmp
+        (map (ended (epochs root) after version) (shard root k) ++ get_or new k [])) (sym e)
       where
         at_end : (vs : List (List Row)) → get_or (vs ++ value ∷ []) (length vs) [] ≡ value
         at_end [] = refl
@@ -168,7 +190,8 @@ shard_more root gone new version n values value so_far is = record {
 
 -- ---- rows of each epoch
 
-all_below : {A : Type 0} (R : A → A → Type 0) (xs : List A) (y : A) → InOrder R (xs ++ y ∷ []) → AllByRecursion (λ x. R x y) xs
+all_below : {A : Type 0} (R : A → A → Type 0) (xs : List A) (y : A) → InOrder R (xs ++ y ∷ [])
+    → AllByRecursion (λ x. R x y) xs
 all_below R [] y order = tt
 all_below R (x ∷ xs) y order = (each-last (R x) xs y order.0, all_below R xs y order.1)
 
@@ -181,19 +204,24 @@ length-part : {A : Type 0} (p : A → Bool) (xs : List A) → length (filter p x
 length-part p [] = omega arith
 length-part {A} p (x ∷ xs) = by (p x) (length-part p xs)
   where
-    by : (b : Bool) → length (filter p xs) ≤ length xs → length (cond b (x ∷ filter p xs) (filter p xs)) ≤ suc (length xs)
+    by : (b : Bool) → length (filter p xs) ≤ length xs
+        → length (cond b (x ∷ filter p xs) (filter p xs)) ≤ suc (length xs)
     by true ih = omega (arith, ih)
     by false ih = omega (arith, ih)
 
 module _ (numbering : Numbering) (root : Root) (edits : List Edit) where
   -- each row stays one of its epoch, and the new ones are of the current one
   rows_after : (id : ℕ) → count (carries id) (committed numbering root edits).rows
-      ≡ count (carries id) root.rows + cond ((committed_epoch numbering root edits).id == id) (length (added root edits)) 0
+      ≡ count (carries id) root.rows + cond ((committed_epoch numbering root edits).id == id)
+      (length (added root edits)) 0
   rows_after id =
       count-ordered (carries id) row_cmp (map end root.rows ++ map row (added root edits))
       ∙ count-append (carries id) (map end root.rows) (map row (added root edits))
-      ∙ ap₂ (λ a b. a + b) (count-map (carries id) end root.rows ∙ count-same (λ r. carries id (end r)) (carries id) root.rows same)
-      (count-map (carries id) row (added root edits) ∙ count-same (λ f. carries id (row f)) (λ f. (committed_epoch numbering root edits).id == id) (added root edits) of_row
+      ∙ ap₂ (λ a b. a + b) (count-map (carries id) end root.rows
+      ∙ count-same (λ r. carries id (end r)) (carries id) root.rows same)
+      (count-map (carries id) row (added root edits)
+      ∙ count-same (λ f. carries id (row f)) (λ f. (committed_epoch numbering root edits).id == id)
+      (added root edits) of_row
       ∙ constant ((committed_epoch numbering root edits).id == id) (added root edits))
     where
       end : Row → Row
@@ -203,7 +231,8 @@ module _ (numbering : Numbering) (root : Root) (edits : List Edit) where
       row = row_for (committed_epoch numbering root edits) (root.version + 1)
 
       same : (r : Row) → carries id (end r) ≡ carries id r
-      same r = by (r.last == open_end && not (is_among (edited_facts edits (root_facts root)) (fact_of (epochs root) r)))
+      same r = by (r.last ==
+          open_end && not (is_among (edited_facts edits (root_facts root)) (fact_of (epochs root) r)))
         where
           by : (b : Bool) → carries id (cond b (ended_at (root.version + 1) r) r) ≡ carries id r
           by true = refl
@@ -217,23 +246,31 @@ module _ (numbering : Numbering) (root : Root) (edits : List Edit) where
   signature_after = by (opens root edits) refl
     where
       by : (b : Bool) → opens root edits ≡ b
-          → (cond b (epoch_from numbering (root.current.id + 1) (root.version + 1) (edited_axioms edits root.current.axioms)
-          (edited_signature edits root.current.signature)) root.current).signature ≡ edited_signature edits root.current.signature
+          → (cond b (epoch_from numbering (root.current.id + 1) (root.version + 1)
+          (edited_axioms edits root.current.axioms)
+          (edited_signature edits root.current.signature)) root.current).signature ≡ edited_signature edits
+          root.current.signature
       by true h = refl
       by false h =
           let old = root.current.signature in
           let new = edited_signature edits old in
-          let same = and_parts (is_eq (slice_cmp axiom_cmp root.current.axioms (edited_axioms edits root.current.axioms))) (same_signature old new) (not-false _ h) in
-          let names = and_parts (is_eq (slice_cmp nat_cmp old.classes new.classes)) (is_eq (slice_cmp nat_cmp old.roles new.roles)) same.1 in
-          ap₂ (λ c r. record { classes = c; roles = r }) (same_is (lists_linear numbers_linear) old.classes new.classes names.0)
+          let same = and_parts (is_eq
+          (slice_cmp axiom_cmp root.current.axioms (edited_axioms edits root.current.axioms)))
+          (same_signature old new) (not-false _ h) in
+          let names = and_parts (is_eq (slice_cmp nat_cmp old.classes new.classes))
+          (is_eq (slice_cmp nat_cmp old.roles new.roles)) same.1 in
+          ap₂ (λ c r. record { classes = c; roles = r })
+          (same_is (lists_linear numbers_linear) old.classes new.classes names.0)
           (same_is (lists_linear numbers_linear) old.roles new.roles names.1)
 
 -- ---- the new root
 
-module _ (root : Root) (o : Ontology) (new gone : List Fact) (ready : IsReady root) (sound : IsSound root) (commit : IsCommit root o new gone) where
+module _ (root : Root) (o : Ontology) (new gone : List Fact) (ready : IsReady root) (sound : IsSound root)
+    (commit : IsCommit root o new gone) where
   -- there is room for the new rows
   pub few_new : length root.rows + length new ≤ max_rows
-  few_new = subst (λ n. length root.rows + n ≤ max_rows) (sym (ap length commit.new_are)) (not_refused root commit.to.edits commit.to.accepted).rows
+  few_new = subst (λ n. length root.rows + n ≤ max_rows) (sym (ap length commit.new_are))
+      (not_refused root commit.to.edits commit.to.accepted).rows
 
   pub after_stands : (numbering : Numbering) → GoesByRule numbering → IsSound (committed numbering root commit.to.edits)
   after_stands numbering rule = record {
@@ -255,30 +292,38 @@ module _ (root : Root) (o : Ontology) (new gone : List Fact) (ready : IsReady ro
   fact_known s (Is c x) h = there_has numbers_linear s.classes c h
   fact_known s (Link p x y) h = there_has numbers_linear s.roles p h
 
-  after_known : AreKnown (edited_signature commit.to.edits root.current.signature) (edited_facts commit.to.edits (root_facts root))
+  after_known : AreKnown (edited_signature commit.to.edits root.current.signature)
+      (edited_facts commit.to.edits (root_facts root))
   after_known =
       let now = sound.stands.reads root.version (IsLive.current refl) in
       let facts = facts_at sound.load sound.history root.version in
       edited_known commit.to.edits root.current.signature (root_facts root)
       (visible_known (epochs root) root.rows root.version (root_facts root) root.current.signature
-      (visible_say (epochs root) root.rows root.version facts now.facts_are) sound.stands.epochs_are.numbered sound.stands.epochs_are.parts)
+      (visible_say (epochs root) root.rows root.version facts now.facts_are) sound.stands.epochs_are.numbered
+      sound.stands.epochs_are.parts)
 
   module _ (current : Kept)
-      (is_current : (numbering : Numbering) → GoesByRule numbering → (a : IsAccepted root o) → epoch_in current ≡ committed_epoch numbering root a.edits) where
+      (is_current : (numbering : Numbering) → GoesByRule numbering → (a : IsAccepted root o)
+      → epoch_in current ≡ committed_epoch numbering root a.edits) where
     pub new_known : All (IsFactIn current.epoch.signature) new
     new_known =
         subst (All (IsFactIn current.epoch.signature)) (sym commit.new_are)
-        (All-filter (λ f. not (has fact_cmp (root_facts root) f)) (IsFactIn current.epoch.signature) (edited_facts commit.to.edits (root_facts root))
+        (All-filter (λ f. not (has fact_cmp (root_facts root) f)) (IsFactIn current.epoch.signature)
+        (edited_facts commit.to.edits (root_facts root))
         (All-weaker (Contains (edited_facts commit.to.edits (root_facts root))) (IsFactIn current.epoch.signature)
         (λ f c. subst (λ s. IsFactIn s f) (sym is_signature)
-        (fact_known (edited_signature commit.to.edits root.current.signature) f (after_known f (has_there facts_linear (edited_facts commit.to.edits (root_facts root)) f c))))
-        (edited_facts commit.to.edits (root_facts root)) (All-contains_itself (edited_facts commit.to.edits (root_facts root)))))
+        (fact_known (edited_signature commit.to.edits root.current.signature) f
+        (after_known f (has_there facts_linear (edited_facts commit.to.edits (root_facts root)) f c))))
+        (edited_facts commit.to.edits (root_facts root))
+        (All-contains_itself (edited_facts commit.to.edits (root_facts root)))))
       where
         is_signature : current.epoch.signature ≡ edited_signature commit.to.edits root.current.signature
-        is_signature = ap (λ e. e.signature) (is_current rule_exists.0 rule_exists.1 commit.to) ∙ signature_after rule_exists.0 root commit.to.edits
+        is_signature = ap (λ e. e.signature) (is_current rule_exists.0 rule_exists.1 commit.to)
+            ∙ signature_after rule_exists.0 root commit.to.edits
 
     module _ (version : ℕ) (version_is : version ≡ root.version + 1) (parts : List (List Row))
-        (parts_are : (first : ℕ) → AreParts root.shards (map (row_for (from_version first current.epoch) version) new) parts) where
+        (parts_are : (first : ℕ)
+        → AreParts root.shards (map (row_for (from_version first current.epoch) version) new) parts) where
       pub parts_fit : (i : ℕ) → i < root.shards → length (shard root i) + length (get_or parts i []) ≤ max_rows
       parts_fit i h =
           let a = length-part (stands_in root.shards i) root.rows in
@@ -289,10 +334,13 @@ module _ (root : Root) (o : Ontology) (new gone : List Fact) (ready : IsReady ro
           omega (arith, a, b, c, d, e)
 
       module _ (entries : List Kept) (entries_are : AreEntriesAfter root o.opens current entries) where
-        all_entries : (numbering : Numbering) → GoesByRule numbering → map epoch_in entries ≡ epochs (committed numbering root commit.to.edits)
+        all_entries : (numbering : Numbering) → GoesByRule numbering
+            → map epoch_in entries ≡ epochs (committed numbering root commit.to.edits)
         all_entries numbering rule =
             ap (map epoch_in) entries_are.are ∙ map-append epoch_in entries_are.older (current ∷ [])
-            ∙ ap₂ (λ es e. es ++ e ∷ []) (entries_are.epochs ∙ ap (λ b. cond b (epochs root) root.older) commit.to.edited.opens) (is_current numbering rule commit.to)
+            ∙ ap₂ (λ es e. es ++ e ∷ [])
+            (entries_are.epochs ∙ ap (λ b. cond b (epochs root) root.older) commit.to.edited.opens)
+            (is_current numbering rule commit.to)
 
         pub in_order : AreEntries entries
         in_order = record {
@@ -303,85 +351,113 @@ module _ (root : Root) (o : Ontology) (new gone : List Fact) (ready : IsReady ro
             after : Root
             after = committed rule_exists.0 root commit.to.edits
 
-            stands : StandsFor (after_stands rule_exists.0 rule_exists.1).load (after_stands rule_exists.0 rule_exists.1).history (committed rule_exists.0 root commit.to.edits)
+            stands : StandsFor (after_stands rule_exists.0 rule_exists.1).load
+                (after_stands rule_exists.0 rule_exists.1).history (committed rule_exists.0 root commit.to.edits)
             stands = (after_stands rule_exists.0 rule_exists.1).stands
 
-            pairs : (f : Epoch → ℕ) (g : Kept → ℕ) → ((k : Kept) → f (epoch_in k) ≡ g k) → InOrder (λ d e. f d < f e) (epochs (committed rule_exists.0 root commit.to.edits))
+            pairs : (f : Epoch → ℕ) (g : Kept → ℕ) → ((k : Kept) → f (epoch_in k) ≡ g k)
+                → InOrder (λ d e. f d < f e) (epochs (committed rule_exists.0 root commit.to.edits))
                 → AllPairs (λ d e. g d < g e) entries
             pairs f g same order i j d lt inside =
                 let at = InOrder_at (λ d e. f d < f e) (map epoch_in entries) i j (epoch_in d)
-                (subst (InOrder (λ d e. f d < f e)) (sym (all_entries rule_exists.0 rule_exists.1)) order) lt (let n = length-map entries epoch_in in omega (arith, n, inside)) in
-                let a = ap f (get_or-map epoch_in entries i d (epoch_in d) (omega (arith, lt, inside))) ∙ same (get_or entries i d) in
+                (subst (InOrder (λ d e. f d < f e)) (sym (all_entries rule_exists.0 rule_exists.1)) order) lt
+                (let n = length-map entries epoch_in in omega (arith, n, inside)) in
+                let a = ap f (get_or-map epoch_in entries i d (epoch_in d) (omega (arith, lt, inside)))
+                ∙ same (get_or entries i d) in
                 let b = ap f (get_or-map epoch_in entries j d (epoch_in d) inside) ∙ same (get_or entries j d) in
                 omega (arith, at, a, b)
 
-        module _ (frozen : IsFrozen current.epoch) (rows_are : current.rows ≡ cond o.opens 0 (rows_in root root.current) + length new)
+        module _ (frozen : IsFrozen current.epoch)
+            (rows_are : current.rows ≡ cond o.opens 0 (rows_in root root.current) + length new)
             (old : Book) (tells : IsBookOf root old) (book : Book) (shards : List (List Row))
-            (book_version : book.version ≡ version) (book_epochs : book.epochs ≡ entries) (book_pins : book.pins ≡ root.pins)
+            (book_version : book.version ≡ version) (book_epochs : book.epochs ≡ entries)
+            (book_pins : book.pins ≡ root.pins)
             (book_rows : book.rows ≡ length root.rows + length new)
             (shards_after : AreShardsAfter root gone parts version root.shards shards) where
           module _ (numbering : Numbering) (rule : GoesByRule numbering) where
-            stands : StandsFor (after_stands numbering rule).load (after_stands numbering rule).history (committed numbering root commit.to.edits)
+            stands : StandsFor (after_stands numbering rule).load (after_stands numbering rule).history
+                (committed numbering root commit.to.edits)
             stands = (after_stands numbering rule).stands
 
             news : length new ≡ length (added root commit.to.edits)
             news = ap length commit.new_are
 
             -- older ids are less than the current one
-            older_ids : AllByRecursion (λ d. d.id < (committed_epoch numbering root commit.to.edits).id) (committed_older root commit.to.edits)
-            older_ids = all_below (λ d e. d.id < e.id) (committed_older root commit.to.edits) (committed_epoch numbering root commit.to.edits) stands.epochs_are.ids
+            older_ids : AllByRecursion (λ d. d.id < (committed_epoch numbering root commit.to.edits).id)
+                (committed_older root commit.to.edits)
+            older_ids = all_below (λ d e. d.id < e.id) (committed_older root commit.to.edits)
+                (committed_epoch numbering root commit.to.edits) stands.epochs_are.ids
 
             older_counts : All (CountsRows (committed numbering root commit.to.edits)) entries_are.older
             older_counts =
-                All-weaker (λ k. Contains entries_are.older k × CountsRows root k) (CountsRows (committed numbering root commit.to.edits)) (λ k h. one k h.0 h.1) entries_are.older
+                All-weaker (λ k. Contains entries_are.older k × CountsRows root k)
+                (CountsRows (committed numbering root commit.to.edits)) (λ k h. one k h.0 h.1) entries_are.older
                 (λ i d h. (All-contains_itself entries_are.older i d h, entries_are.counts i d h))
               where
-                one : (k : Kept) → Contains entries_are.older k → CountsRows root k → CountsRows (committed numbering root commit.to.edits) k
+                one : (k : Kept) → Contains entries_are.older k → CountsRows root k
+                    → CountsRows (committed numbering root commit.to.edits) k
                 one k c is =
-                    let there = subst (λ es. Contains es (epoch_in k)) (entries_are.epochs ∙ ap (λ b. cond b (epochs root) root.older) commit.to.edited.opens)
+                    let there = subst (λ es. Contains es (epoch_in k))
+                    (entries_are.epochs ∙ ap (λ b. cond b (epochs root) root.older) commit.to.edited.opens)
                     (Contains-map_of epoch_in entries_are.older k c) in
-                    let less = All-Contains (λ d. d.id < (committed_epoch numbering root commit.to.edits).id) (committed_older root commit.to.edits) (epoch_in k)
-                    (All-from_recursion (λ d. d.id < (committed_epoch numbering root commit.to.edits).id) (committed_older root commit.to.edits) older_ids) there in
-                    let other = ne_eqb (committed_epoch numbering root commit.to.edits).id k.epoch.id (λ e. omega (arith, less, e)) in
+                    let less = All-Contains (λ d. d.id < (committed_epoch numbering root commit.to.edits).id)
+                    (committed_older root commit.to.edits) (epoch_in k)
+                    (All-from_recursion (λ d. d.id < (committed_epoch numbering root commit.to.edits).id)
+                    (committed_older root commit.to.edits) older_ids) there in
+                    let other = ne_eqb (committed_epoch numbering root commit.to.edits).id k.epoch.id
+                    (λ e. omega (arith, less, e)) in
                     let n = ap {B = ℕ} (λ b. cond b (length (added root commit.to.edits)) 0) other in
                     let all = rows_after numbering root commit.to.edits k.epoch.id in
                     omega (arith, is, n, all)
 
             -- no row carries the id of an epoch that opens
-            none_yet : opens root commit.to.edits ≡ true → count (carries (committed_epoch numbering root commit.to.edits).id) root.rows ≡ 0
+            none_yet : opens root commit.to.edits ≡ true
+                → count (carries (committed_epoch numbering root commit.to.edits).id) root.rows ≡ 0
             none_yet h =
                 count-agree (carries (committed_epoch numbering root commit.to.edits).id) (λ r. false) root.rows
-                (All-weaker (IsRowAt (epochs root) root.version) (λ r. carries (committed_epoch numbering root commit.to.edits).id r ≡ false) (λ r row. one r row)
+                (All-weaker (IsRowAt (epochs root) root.version)
+                (λ r. carries (committed_epoch numbering root commit.to.edits).id r ≡ false) (λ r row. one r row)
                 root.rows sound.stands.rows_are.each)
                 ∙ count-none root.rows
               where
-                one : (r : Row) → IsRowAt (epochs root) root.version r → carries (committed_epoch numbering root commit.to.edits).id r ≡ false
+                one : (r : Row) → IsRowAt (epochs root) root.version r
+                    → carries (committed_epoch numbering root commit.to.edits).id r ≡ false
                 one r row =
                     let e = row_epoch (epochs root) r row.fact row.stands in
                     let found = find_is (λ d. d.id == r.epoch) (epochs root) e.0 e.1 in
                     let there = subst (λ b. Contains (cond b (epochs root) root.older) e.0) (sym h) found.1 in
-                    let less = All-Contains (λ d. d.id < (committed_epoch numbering root commit.to.edits).id) (committed_older root commit.to.edits) e.0
-                    (All-from_recursion (λ d. d.id < (committed_epoch numbering root commit.to.edits).id) (committed_older root commit.to.edits) older_ids) there in
+                    let less = All-Contains (λ d. d.id < (committed_epoch numbering root commit.to.edits).id)
+                    (committed_older root commit.to.edits) e.0
+                    (All-from_recursion (λ d. d.id < (committed_epoch numbering root commit.to.edits).id)
+                    (committed_older root commit.to.edits) older_ids) there in
                     let same = eqb-true e.0.id r.epoch found.0 in
-                    ne_eqb r.epoch (committed_epoch numbering root commit.to.edits).id (λ x. omega (arith, less, same, x))
+                    ne_eqb r.epoch (committed_epoch numbering root commit.to.edits).id
+                    (λ x. omega (arith, less, same, x))
 
             current_counts : CountsRows (committed numbering root commit.to.edits) current
             current_counts =
                 let id = ap (λ e. e.id) (is_current numbering rule commit.to) in
-                let all = rows_after numbering root commit.to.edits (committed_epoch numbering root commit.to.edits).id in
-                let same = ap {B = ℕ} (λ b. cond b (length (added root commit.to.edits)) 0) (eq-eqb (committed_epoch numbering root commit.to.edits).id (committed_epoch numbering root commit.to.edits).id refl) in
+                let all = rows_after numbering root commit.to.edits (committed_epoch numbering root commit.to.edits).id
+                in
+                let same = ap {B = ℕ} (λ b. cond b (length (added root commit.to.edits)) 0)
+                (eq-eqb (committed_epoch numbering root commit.to.edits).id
+                (committed_epoch numbering root commit.to.edits).id refl) in
                 let before = earlier (opens root commit.to.edits) refl in
                 let opened = ap {B = ℕ} (λ b. cond b 0 (rows_in root root.current)) commit.to.edited.opens in
                 let n = news in
                 let rows = rows_are in
-                (let total : current.rows ≡ count (carries (committed_epoch numbering root commit.to.edits).id) (committed numbering root commit.to.edits).rows = omega (arith, all, same, before, opened, n, rows) in
+                (let total : current.rows ≡ count (carries (committed_epoch numbering root commit.to.edits).id)
+                (committed numbering root commit.to.edits).rows = omega (arith, all, same, before, opened, n, rows) in
                 total ∙ ap (λ i. count (carries i) (committed numbering root commit.to.edits).rows) (sym id))
               where
                 earlier : (b : Bool) → opens root commit.to.edits ≡ b
-                    → count (carries (committed_epoch numbering root commit.to.edits).id) root.rows ≡ cond (opens root commit.to.edits) 0 (rows_in root root.current)
+                    → count (carries (committed_epoch numbering root commit.to.edits).id) root.rows ≡ cond
+                    (opens root commit.to.edits) 0 (rows_in root root.current)
                 earlier true h = none_yet h ∙ ap {B = ℕ} (λ b. cond b 0 (rows_in root root.current)) (sym h)
                 earlier false h =
-                    ap (λ b. count (carries (cond b (epoch_from numbering (root.current.id + 1) (root.version + 1) (edited_axioms commit.to.edits root.current.axioms)
+                    ap (λ b. count (carries
+                    (cond b (epoch_from numbering (root.current.id + 1) (root.version + 1)
+                    (edited_axioms commit.to.edits root.current.axioms)
                     (edited_signature commit.to.edits root.current.signature)) root.current).id) root.rows) h
                     ∙ ap {B = ℕ} (λ b. cond b 0 (rows_in root root.current)) (sym h)
 
@@ -392,40 +468,66 @@ module _ (root : Root) (o : Ontology) (new gone : List Fact) (ready : IsReady ro
                 epochs = ap (map epoch_in) book_epochs ∙ all_entries numbering rule;
                 pins = book_pins;
                 rows = book_rows ∙ sym total;
-                counts = subst (All (CountsRows (committed numbering root commit.to.edits))) (sym (book_epochs ∙ entries_are.are))
-                    (All-push (CountsRows (committed numbering root commit.to.edits)) entries_are.older current older_counts current_counts);
-                frozen = subst (All (λ k. IsFrozen k.epoch)) (sym (book_epochs ∙ entries_are.are)) (All-push (λ k. IsFrozen k.epoch) entries_are.older current entries_are.frozen frozen);
+                counts = subst (All (CountsRows (committed numbering root commit.to.edits)))
+                    (sym (book_epochs ∙ entries_are.are))
+                    (All-push (CountsRows (committed numbering root commit.to.edits)) entries_are.older current
+                    older_counts current_counts);
+                frozen = subst (All (λ k. IsFrozen k.epoch)) (sym (book_epochs ∙ entries_are.are))
+                    (All-push (λ k. IsFrozen k.epoch) entries_are.older current entries_are.frozen frozen);
               };
-              shards_are = shards_are (committed numbering root commit.to.edits) shards sound.stands.shards.1 stands.rows_are.ascending shards_after.as_many each;
+              shards_are = shards_are (committed numbering root commit.to.edits) shards sound.stands.shards.1
+                  stands.rows_are.ascending shards_after.as_many each;
               sound = after_stands numbering rule;
             }
               where
                 total : length (committed numbering root commit.to.edits).rows ≡ length root.rows + length new
                 total =
-                    let a = length-ordered row_cmp (map (ended (epochs root) (edited_facts commit.to.edits (root_facts root)) (root.version + 1)) root.rows
-                    ++ map (row_for (committed_epoch numbering root commit.to.edits) (root.version + 1)) (added root commit.to.edits)) in
-                    let b = length-append (map (ended (epochs root) (edited_facts commit.to.edits (root_facts root)) (root.version + 1)) root.rows)
-                    (map (row_for (committed_epoch numbering root commit.to.edits) (root.version + 1)) (added root commit.to.edits)) in
-                    let c = length-map root.rows (ended (epochs root) (edited_facts commit.to.edits (root_facts root)) (root.version + 1)) in
-                    let d = length-map (added root commit.to.edits) (row_for (committed_epoch numbering root commit.to.edits) (root.version + 1)) in
+                    let a = length-ordered row_cmp
+                    (map (ended (epochs root) (edited_facts commit.to.edits (root_facts root)) (root.version + 1))
+                    root.rows
+                    ++ map (row_for (committed_epoch numbering root commit.to.edits) (root.version + 1))
+                    (added root commit.to.edits)) in
+                    let b = length-append
+                    (map (ended (epochs root) (edited_facts commit.to.edits (root_facts root)) (root.version + 1))
+                    root.rows)
+                    (map (row_for (committed_epoch numbering root commit.to.edits) (root.version + 1))
+                    (added root commit.to.edits)) in
+                    let c = length-map root.rows
+                    (ended (epochs root) (edited_facts commit.to.edits (root_facts root)) (root.version + 1)) in
+                    let d = length-map (added root commit.to.edits)
+                    (row_for (committed_epoch numbering root commit.to.edits) (root.version + 1)) in
                     let n = news in
                     omega (arith, a, b, c, d, n)
 
-                each : (i : ℕ) → i < root.shards → get_or shards i [] ≡ shard (committed numbering root commit.to.edits) i
+                each : (i : ℕ) → i < root.shards
+                    → get_or shards i [] ≡ shard (committed numbering root commit.to.edits) i
                 each i h =
                     shards_after.each (edited_facts commit.to.edits (root_facts root)) commit.gone_are i h
-                    ∙ ap (λ v. ordered row_cmp (map (ended (epochs root) (edited_facts commit.to.edits (root_facts root)) v) (shard root i) ++ get_or parts i [])) version_is
-                    ∙ ap (λ rs. ordered row_cmp (map (ended (epochs root) (edited_facts commit.to.edits (root_facts root)) (root.version + 1)) (shard root i) ++ rs)) part
+                    ∙ ap (λ v. ordered row_cmp
+                    (map (ended (epochs root) (edited_facts commit.to.edits (root_facts root)) v)
+                    (shard root i) ++ get_or parts i [])) version_is
+                    ∙ ap (λ rs. ordered row_cmp
+                    (map (ended (epochs root) (edited_facts commit.to.edits (root_facts root)) (root.version + 1))
+                    (shard root i) ++ rs)) part
                     ∙ sym (shard-committed numbering root commit.to.edits i)
                   where
-                    part : get_or parts i [] ≡ map (row_for (committed_epoch numbering root commit.to.edits) (root.version + 1))
-                        (filter (λ f. stands_in root.shards i (row_for (committed_epoch numbering root commit.to.edits) (root.version + 1) f)) (added root commit.to.edits))
+                    part : get_or parts i [] ≡ map
+                        (row_for (committed_epoch numbering root commit.to.edits) (root.version + 1))
+                        (filter (λ f. stands_in root.shards i
+                        (row_for (committed_epoch numbering root commit.to.edits) (root.version + 1) f))
+                        (added root commit.to.edits))
                     part =
                         (parts_are current.first).each i h
-                        ∙ ap₂ (λ e v. filter (stands_in root.shards i) (map (row_for e v) new)) (is_current numbering rule commit.to) version_is
-                        ∙ ap (λ fs. filter (stands_in root.shards i) (map (row_for (committed_epoch numbering root commit.to.edits) (root.version + 1)) fs)) commit.new_are
-                        ∙ filter-map (stands_in root.shards i) (λ f. stands_in root.shards i (row_for (committed_epoch numbering root commit.to.edits) (root.version + 1) f))
-                        (row_for (committed_epoch numbering root commit.to.edits) (root.version + 1)) (λ f. refl) (added root commit.to.edits)
+                        ∙ ap₂ (λ e v. filter (stands_in root.shards i) (map (row_for e v) new))
+                        (is_current numbering rule commit.to) version_is
+                        ∙ ap (λ fs. filter (stands_in root.shards i)
+                        (map (row_for (committed_epoch numbering root commit.to.edits) (root.version + 1)) fs))
+                        commit.new_are
+                        ∙ filter-map (stands_in root.shards i)
+                        (λ f. stands_in root.shards i
+                        (row_for (committed_epoch numbering root commit.to.edits) (root.version + 1) f))
+                        (row_for (committed_epoch numbering root commit.to.edits) (root.version + 1)) (λ f. refl)
+                        (added root commit.to.edits)
 
 -- parts of rows, as a caller sees them
 pub parts_moved : (new : List Fact) (version n m : ℕ) (d e : Frozen) (ps qs : List (List Row)) → d ≡ e → n ≡ m → qs ≡ ps
@@ -433,11 +535,13 @@ pub parts_moved : (new : List Fact) (version n m : ℕ) (d e : Frozen) (ps qs : 
     → (first : ℕ) → AreParts m (map (row_for (from_version first e) version) new) qs
 parts_moved new version n m d e ps qs same count is are first =
     subst (λ k. AreParts k (map (row_for (from_version first e) version) new) qs) count
-    (subst (λ x. AreParts n (map (row_for (from_version first x) version) new) qs) same (subst (AreParts n (map (row_for (from_version first d) version) new)) (sym is) (are first)))
+    (subst (λ x. AreParts n (map (row_for (from_version first x) version) new) qs) same
+    (subst (AreParts n (map (row_for (from_version first d) version) new)) (sym is) (are first)))
 
 -- ---- the reply
 
 pub answered : (after next : Root) (v e : ℕ) → after ≡ next → v ≡ after.version → e ≡ after.current.id
     → ◌≡◌ {A = Root × Reply} (after, reply.Committed v e) (next, reply.Committed next.version next.current.id)
 answered after next v e is version id =
-    ap₂ {C = Root × Reply} (λ v e. (after, reply.Committed v e)) version id ∙ ap {B = Root × Reply} (λ r. (r, reply.Committed r.version r.current.id)) is
+    ap₂ {C = Root × Reply} (λ v e. (after, reply.Committed v e)) version id
+    ∙ ap {B = Root × Reply} (λ r. (r, reply.Committed r.version r.current.id)) is

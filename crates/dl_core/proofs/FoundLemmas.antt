@@ -46,7 +46,8 @@ module _ {A : Type 0} (p : A → Bool) (xs : List A) where
   found_at i d e = let f = position-Some p xs i d e in (get_or xs i d, slice_get-get_or xs i d f.0, f.1)
 
   found_none : position p xs ≡ None → (x : A) → Contains xs x → p x ≡ false
-  found_none e x c = ap p (sym c.2) ∙ fails_before_first p xs c.0 x (let l = past (position_or_len p xs) (length xs) e in let h = c.1 in omega arith)
+  found_none e x c = ap p (sym c.2)
+      ∙ fails_before_first p xs c.0 x (let l = past (position_or_len p xs) (length xs) e in let h = c.1 in omega arith)
     where
       past : (n m : ℕ) → cond (nat_lt n m) (Some n) None ≡ None → m ≤ n
       past n m e = by (nat_lt n m) refl e
@@ -78,8 +79,10 @@ module _ (id : ℕ) (kind : Kind) (number s o : ℕ) (r : Row) where
   fields : is_open_at id kind number s o r ≡ true → HasFields id kind number s o r
   fields h =
       let a = and_parts (is_at id kind number s o r) (r.last == open_end) h in
-      let b = and_parts (r.epoch == id) ((kind_number r.kind == kind_number kind) && ((r.number == number) && ((r.s == s) && (r.o == o)))) a.0 in
-      let c = and_parts (kind_number r.kind == kind_number kind) ((r.number == number) && ((r.s == s) && (r.o == o))) b.1 in
+      let b = and_parts (r.epoch == id)
+      ((kind_number r.kind == kind_number kind) && ((r.number == number) && ((r.s == s) && (r.o == o)))) a.0 in
+      let c = and_parts (kind_number r.kind == kind_number kind) ((r.number == number) && ((r.s == s) && (r.o == o)))
+      b.1 in
       let d = and_parts (r.number == number) ((r.s == s) && (r.o == o)) c.1 in
       let e = and_parts (r.s == s) (r.o == o) d.1 in
       record {
@@ -94,8 +97,11 @@ module _ (id : ℕ) (kind : Kind) (number s o : ℕ) (r : Row) where
   fields_of : HasFields id kind number s o r → is_open_at id kind number s o r ≡ true
   fields_of h =
       and_from (is_at id kind number s o r) (r.last == open_end)
-      (and_from (r.epoch == id) ((kind_number r.kind == kind_number kind) && ((r.number == number) && ((r.s == s) && (r.o == o)))) (eq-eqb r.epoch id h.epoch)
-      (and_from (kind_number r.kind == kind_number kind) ((r.number == number) && ((r.s == s) && (r.o == o))) (kind_itself r.kind kind h.kind)
+      (and_from (r.epoch == id)
+      ((kind_number r.kind == kind_number kind) && ((r.number == number) && ((r.s == s) && (r.o == o))))
+      (eq-eqb r.epoch id h.epoch)
+      (and_from (kind_number r.kind == kind_number kind) ((r.number == number) && ((r.s == s) && (r.o == o)))
+      (kind_itself r.kind kind h.kind)
       (and_from (r.number == number) ((r.s == s) && (r.o == o)) (eq-eqb r.number number h.number)
       (and_from (r.s == s) (r.o == o) (eq-eqb r.s s h.s) (eq-eqb r.o o h.o)))))
       (eq-eqb r.last open_end h.last)
@@ -118,7 +124,8 @@ class_parts : (k : Kind) (s o name c x : ℕ) → fact_by k s o name ≡ Is c x 
 class_parts Class s o name c x e = (refl, cc, cc)
 class_parts Role s o name c x e = cc
 
-role_parts : (k : Kind) (s o name p x y : ℕ) → fact_by k s o name ≡ Link p x y → (k ≡ Role) × (name ≡ p) × (s ≡ x) × (o ≡ y)
+role_parts : (k : Kind) (s o name p x y : ℕ) → fact_by k s o name ≡ Link p x y
+    → (k ≡ Role) × (name ≡ p) × (s ≡ x) × (o ≡ y)
 role_parts Role s o name p x y e = (refl, cc, cc, cc)
 role_parts Class s o name p x y e = cc
 
@@ -138,7 +145,8 @@ class_ends Role s o e h = cc
 -- ---- what a search in one epoch finds
 
 module _ (rows : List Row) (e : Frozen) (id number : ℕ) (same : id ≡ e.id) where
-  class_found : (c x : ℕ) → HasNumber e.classes c number → (o : Option ℕ) → o ≡ position (is_open_at id Class number x x) rows
+  class_found : (c x : ℕ) → HasNumber e.classes c number → (o : Option ℕ)
+      → o ≡ position (is_open_at id Class number x x) rows
       → MatchOption o (NoneOpens rows e (Is c x)) (OpensAt rows e (Is c x))
   class_found c x h None is = record {
     none = λ first numbered r there last epoch agree says.
@@ -167,10 +175,12 @@ module _ (rows : List Row) (e : Frozen) (id number : ℕ) (same : id ≡ e.id) w
         epoch = f.epoch ∙ same;
         says = λ first.
             ap₂ (λ k n. fact_named w.0 (name_at (names_of k (from_version first e)) n)) f.kind f.number
-            ∙ ap (fact_named w.0) (number_named e.classes c number h) ∙ ap₂ (λ k s. Some (fact_by k s w.0.o c)) f.kind f.s;
+            ∙ ap (fact_named w.0) (number_named e.classes c number h)
+            ∙ ap₂ (λ k s. Some (fact_by k s w.0.o c)) f.kind f.s;
       }
 
-  role_found : (p x y : ℕ) → HasNumber e.roles p number → (o : Option ℕ) → o ≡ position (is_open_at id Role number x y) rows
+  role_found : (p x y : ℕ) → HasNumber e.roles p number → (o : Option ℕ)
+      → o ≡ position (is_open_at id Role number x y) rows
       → MatchOption o (NoneOpens rows e (Link p x y)) (OpensAt rows e (Link p x y))
   role_found p x y h None is = record {
     none = λ first numbered r there last epoch agree says.
@@ -204,37 +214,47 @@ module _ (rows : List Row) (e : Frozen) (id number : ℕ) (same : id ≡ e.id) w
       }
 
 -- an epoch that doesn't know a predicate has no row of it
-pub class_unknown : (rows : List Row) (e : Frozen) (c x : ℕ) → (Contains e.signature.classes c → ⊥) → NoneOpens rows e (Is c x)
+pub class_unknown : (rows : List Row) (e : Frozen) (c x : ℕ) → (Contains e.signature.classes c → ⊥)
+    → NoneOpens rows e (Is c x)
 class_unknown rows e c x unknown = record {
   none = λ first numbered r there last epoch agree says.
       let n = named_by (from_version first e) r (Is c x) says in
       let p = class_parts r.kind r.s r.o n.name c x n.is in
       unknown (there_has numbers_linear e.signature.classes c (sym (numbered.classes c)
-      ∙ number_has e.classes r.number c (ap (λ k. name_at (names_of k (from_version first e)) r.number) (sym p.0) ∙ n.numbered ∙ ap Some p.1)));
+      ∙ number_has e.classes r.number c
+      (ap (λ k. name_at (names_of k (from_version first e)) r.number) (sym p.0) ∙ n.numbered ∙ ap Some p.1)));
 }
 
-pub role_unknown : (rows : List Row) (e : Frozen) (p x y : ℕ) → (Contains e.signature.roles p → ⊥) → NoneOpens rows e (Link p x y)
+pub role_unknown : (rows : List Row) (e : Frozen) (p x y : ℕ) → (Contains e.signature.roles p → ⊥)
+    → NoneOpens rows e (Link p x y)
 role_unknown rows e p x y unknown = record {
   none = λ first numbered r there last epoch agree says.
       let n = named_by (from_version first e) r (Link p x y) says in
       let q = role_parts r.kind r.s r.o n.name p x y n.is in
       unknown (there_has numbers_linear e.signature.roles p (sym (numbered.roles p)
-      ∙ number_has e.roles r.number p (ap (λ k. name_at (names_of k (from_version first e)) r.number) (sym q.0) ∙ n.numbered ∙ ap Some q.1)));
+      ∙ number_has e.roles r.number p
+      (ap (λ k. name_at (names_of k (from_version first e)) r.number) (sym q.0) ∙ n.numbered ∙ ap Some q.1)));
 }
 
-pub class_place : (rows : List Row) (e : Frozen) (id number c x : ℕ) → id ≡ e.id → HasNumber e.classes c number → (o : Option ℕ)
-    → o ≡ position (is_open_at id Class number x x) rows → MatchOption o (NoneOpens rows e (Is c x)) (OpensAt rows e (Is c x))
+pub class_place : (rows : List Row) (e : Frozen) (id number c x : ℕ) → id ≡ e.id → HasNumber e.classes c number
+    → (o : Option ℕ)
+    → o ≡ position (is_open_at id Class number x x) rows
+    → MatchOption o (NoneOpens rows e (Is c x)) (OpensAt rows e (Is c x))
 class_place rows e id number c x same h o is = class_found rows e id number same c x h o is
 
-pub role_place : (rows : List Row) (e : Frozen) (id number p x y : ℕ) → id ≡ e.id → HasNumber e.roles p number → (o : Option ℕ)
-    → o ≡ position (is_open_at id Role number x y) rows → MatchOption o (NoneOpens rows e (Link p x y)) (OpensAt rows e (Link p x y))
+pub role_place : (rows : List Row) (e : Frozen) (id number p x y : ℕ) → id ≡ e.id → HasNumber e.roles p number
+    → (o : Option ℕ)
+    → o ≡ position (is_open_at id Role number x y) rows
+    → MatchOption o (NoneOpens rows e (Link p x y)) (OpensAt rows e (Link p x y))
 role_place rows e id number p x y same h o is = role_found rows e id number same p x y h o is
 
-pub Contains-filter_of : {A : Type 0} (p : A → Bool) (xs : List A) (x : A) → Contains xs x → p x ≡ true → Contains (filter p xs) x
+pub Contains-filter_of : {A : Type 0} (p : A → Bool) (xs : List A) (x : A) → Contains xs x → p x ≡ true
+    → Contains (filter p xs) x
 Contains-filter_of p [] x c is = absurd (Contains-nil x c)
 Contains-filter_of {A} p (y ∷ ys) x c is = by (p y) refl (λ d. Contains-filter_of p ys x d is) (Contains-cons y x ys c)
   where
-    by : (b : Bool) → p y ≡ b → (Contains ys x → Contains (filter p ys) x) → (y ≡ x) ⊎ Contains ys x → Contains (cond b (y ∷ filter p ys) (filter p ys)) x
+    by : (b : Bool) → p y ≡ b → (Contains ys x → Contains (filter p ys) x) → (y ≡ x) ⊎ Contains ys x
+        → Contains (cond b (y ∷ filter p ys) (filter p ys)) x
     by true e rest (inl same) = subst (Contains (y ∷ filter p ys)) same (Contains-first y (filter p ys))
     by true e rest (inr later) = Contains-later y x (filter p ys) (rest later)
     by false e rest (inl same) = absurd (true≢false (sym is ∙ ap p (sym same) ∙ e))
@@ -247,28 +267,34 @@ pub by_id : (es : List Epoch) (e : Epoch) → InOrder (λ c d. c.id < d.id) es �
 by_id [] e up c = absurd (Contains-nil e c)
 by_id (d ∷ es) e up c = by (Contains-cons d e es c) (by_id es e up.1)
   where
-    by : (d ≡ e) ⊎ Contains es e → (Contains es e → epoch_of es e.id ≡ Some e) → cond (d.id == e.id) (Some d) (epoch_of es e.id) ≡ Some e
-    by (inl same) ih = ap (λ b. cond b (Some d) (epoch_of es e.id)) (eq-eqb d.id e.id (ap (λ x. x.id) same)) ∙ ap Some same
+    by : (d ≡ e) ⊎ Contains es e → (Contains es e → epoch_of es e.id ≡ Some e)
+        → cond (d.id == e.id) (Some d) (epoch_of es e.id) ≡ Some e
+    by (inl same) ih = ap (λ b. cond b (Some d) (epoch_of es e.id)) (eq-eqb d.id e.id (ap (λ x. x.id) same))
+        ∙ ap Some same
     by (inr later) ih =
         let less = All-Contains (λ x. d.id < x.id) es e (All-from_recursion (λ x. d.id < x.id) es up.0) later in
         ap (λ b. cond b (Some d) (epoch_of es e.id)) (ne_eqb d.id e.id (λ h. omega (arith, h, less))) ∙ ih later
 
-module _ (l : Load) (history : List Entry) (root : Root) (s : StandsFor l history root) (kepts : List Kept) (are : map epoch_in kepts ≡ epochs root) (f : Fact) where
+module _ (l : Load) (history : List Entry) (root : Root) (s : StandsFor l history root) (kepts : List Kept)
+    (are : map epoch_in kepts ≡ epochs root) (f : Fact) where
   kept_there : (k : Kept) → Contains kepts k → Contains (epochs root) (epoch_in k)
   kept_there k c = subst (λ es. Contains es (epoch_in k)) are (Contains-map_of epoch_in kepts k c)
 
-  pub found_in : (k : Kept) (place : ℕ) → Contains kepts k → OpensAt (shard root (shard_of root f)) k.epoch f place → StandsAt root f place
+  pub found_in : (k : Kept) (place : ℕ) → Contains kepts k → OpensAt (shard root (shard_of root f)) k.epoch f place
+      → StandsAt root f place
   found_in k place c o = record {
     row = o.row;
     at = o.at;
     is_open = o.is_open;
     stands =
-        ap (fact_in o.row) (ap (epoch_of (epochs root)) o.epoch ∙ by_id (epochs root) (epoch_in k) s.epochs_are.ids (kept_there k c)) ∙ o.says k.first;
+        ap (fact_in o.row) (ap (epoch_of (epochs root)) o.epoch
+        ∙ by_id (epochs root) (epoch_in k) s.epochs_are.ids (kept_there k c)) ∙ o.says k.first;
   }
 
   has_one : rows_for (epochs root) root.rows root.version f ≡ cond (has fact_cmp (root_facts root) f) 1 0
   has_one =
-      visible_say (epochs root) root.rows root.version (facts_at l history root.version) (s.reads root.version (IsLive.current refl)).facts_are f
+      visible_say (epochs root) root.rows root.version (facts_at l history root.version)
+      (s.reads root.version (IsLive.current refl)).facts_are f
 
   -- the row of a fact that is there
   pub record HasRow : Type 0 where
@@ -281,7 +307,8 @@ module _ (l : Load) (history : List Entry) (root : Root) (s : StandsFor l histor
   pub has_row : has fact_cmp (root_facts root) f ≡ true → HasRow
   has_row h =
       let n = has_one ∙ ap (λ b. cond b 1 0) h in
-      let q = count_there (λ r. visible root.version r && is_fact f (fact_of (epochs root) r)) root.rows (omega (arith, n)) in
+      let q = count_there (λ r. visible root.version r && is_fact f (fact_of (epochs root) r)) root.rows
+      (omega (arith, n)) in
       let seen = and_parts (visible root.version q.0) (is_fact f (fact_of (epochs root) q.0)) q.2 in
       let row = All-Contains (IsRowAt (epochs root) root.version) root.rows q.0 s.rows_are.each q.1 in
       record {
@@ -292,17 +319,21 @@ module _ (l : Load) (history : List Entry) (root : Root) (s : StandsFor l histor
         ends_agree = row.ends_agree;
       }
     where
-      ends : (r : Row) → (r.last ≡ open_end) ⊎ (r.last ≤ root.version) → nat_lt root.version r.last ≡ true → r.last ≡ open_end
+      ends : (r : Row) → (r.last ≡ open_end) ⊎ (r.last ≤ root.version) → nat_lt root.version r.last ≡ true
+          → r.last ≡ open_end
       ends r (inl e) h = e
       ends r (inr b) h = absurd (let l = ltb-true root.version r.last h in omega (arith, b, l))
 
   -- it stands in the shard of the fact
-  pub in_shard : (r : Row) → Contains root.rows r → fact_of (epochs root) r ≡ Some f → Contains (shard root (shard_of root f)) r
+  pub in_shard : (r : Row) → Contains root.rows r → fact_of (epochs root) r ≡ Some f
+      → Contains (shard root (shard_of root f)) r
   in_shard r c stands =
       Contains-filter_of (stands_in root.shards (shard_of root f)) root.rows r c
-      (eq-eqb (r.s % root.shards) (shard_of root f) (ap (λ n. n % root.shards) (row_end r (epoch_of (epochs root) r.epoch) f stands)))
+      (eq-eqb (r.s % root.shards) (shard_of root f)
+      (ap (λ n. n % root.shards) (row_end r (epoch_of (epochs root) r.epoch) f stands)))
 
-  pub missing : All (λ k. NoneOpens (shard root (shard_of root f)) k.epoch f) kepts → has fact_cmp (root_facts root) f ≡ false
+  pub missing : All (λ k. NoneOpens (shard root (shard_of root f)) k.epoch f) kepts
+      → has fact_cmp (root_facts root) f ≡ false
   missing none = false_from_ne_true (has fact_cmp (root_facts root) f) (λ h.
       let w = has_row h in
       let e = row_epoch (epochs root) w.row f w.stands in
@@ -321,15 +352,19 @@ pub shard_is : (root : Root) (f : Fact) (end shards : ℕ) (rows : List Row) →
 shard_is root f end shards rows e s is = is ∙ ap₂ (λ x n. shard root (x % n)) e s
 
 module _ (f : Fact) (rows : List Row) (entries : List Held) where
-  pub none_more : (i : ℕ) (e : Held) (by : Frozen) → i < length entries → e ≡ get_or entries i e → by ≡ (kept e).epoch → NoneOpens rows by f
-      → All (λ e. NoneOpens rows (kept e).epoch f) (take i entries) → All (λ e. NoneOpens rows (kept e).epoch f) (take (i + 1) entries)
+  pub none_more : (i : ℕ) (e : Held) (by : Frozen) → i < length entries → e ≡ get_or entries i e → by ≡ (kept e).epoch
+      → NoneOpens rows by f
+      → All (λ e. NoneOpens rows (kept e).epoch f) (take i entries)
+      → All (λ e. NoneOpens rows (kept e).epoch f) (take (i + 1) entries)
   none_more i e by inside read is none before =
       All-more (λ e. NoneOpens rows (kept e).epoch f) entries i e inside before
       (subst (λ d. NoneOpens rows (kept d).epoch f) read (subst (λ b. NoneOpens rows b f) is none))
 
-  module _ (root : Root) (book : Book) (of : IsBookOf root book) (sound : IsSound root) (same : map kept entries ≡ book.epochs)
+  module _ (root : Root) (book : Book) (of : IsBookOf root book) (sound : IsSound root)
+      (same : map kept entries ≡ book.epochs)
       (rows_are : rows ≡ shard root (shard_of root f)) where
-    pub place_found : (i : ℕ) (e : Held) (by : Frozen) (place : ℕ) → i < length entries → e ≡ get_or entries i e → by ≡ (kept e).epoch
+    pub place_found : (i : ℕ) (e : Held) (by : Frozen) (place : ℕ) → i < length entries → e ≡ get_or entries i e
+        → by ≡ (kept e).epoch
         → OpensAt rows by f place → StandsAt root f place
     place_found i e by place inside read is opens =
         found_in sound.load sound.history root sound.stands book.epochs of.epochs f (kept e) place
@@ -342,4 +377,5 @@ module _ (f : Fact) (rows : List Row) (entries : List Held) where
         missing sound.load sound.history root sound.stands book.epochs of.epochs f
         (subst (λ rs. All (λ k. NoneOpens rs k.epoch f) book.epochs) rows_are
         (subst (All (λ k. NoneOpens rows k.epoch f)) same
-        (All-map (λ k. NoneOpens rows k.epoch f) kept entries (subst (All (λ e. NoneOpens rows (kept e).epoch f)) (take_all i entries past) none))))
+        (All-map (λ k. NoneOpens rows k.epoch f) kept entries
+        (subst (All (λ e. NoneOpens rows (kept e).epoch f)) (take_all i entries past) none))))

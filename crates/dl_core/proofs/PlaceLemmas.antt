@@ -39,12 +39,14 @@ module _ {A : Type 0} (e : A → Bool) (f : A → A) (places : List ℕ) where
 
   -- so what is left, and what those become that are taken, has the counts of the whole list with these changed
   pub count-changed : (q : A → Bool) (i : ℕ) (xs : List A) → TellFrom i xs
-      → count q (left_from i places xs) + count q (map f (taken_from i places xs)) ≡ count q (map (λ x. cond (e x) (f x) x) xs)
+      → count q (left_from i places xs) + count q (map f (taken_from i places xs)) ≡ count q
+      (map (λ x. cond (e x) (f x) x) xs)
   count-changed q i [] tell = refl
   count-changed q i (x ∷ xs) tell = by (list_any (λ p. p == i) places) (e x) tell.0 (count-changed q (suc i) xs tell.1)
     where
       by : (b c : Bool) → b ≡ c
-          → count q (left_from (suc i) places xs) + count q (map f (taken_from (suc i) places xs)) ≡ count q (map (λ x. cond (e x) (f x) x) xs)
+          → count q (left_from (suc i) places xs) + count q (map f (taken_from (suc i) places xs)) ≡ count q
+          (map (λ x. cond (e x) (f x) x) xs)
           → count q (cond b (left_from (suc i) places xs) (x ∷ left_from (suc i) places xs))
           + count q (map f (cond b (x ∷ taken_from (suc i) places xs) (taken_from (suc i) places xs)))
           ≡ cond (q (cond c (f x) x)) 1 0 + count q (map (λ x. cond (e x) (f x) x) xs)
@@ -54,11 +56,13 @@ module _ {A : Type 0} (e : A → Bool) (f : A → A) (places : List ℕ) where
       by false false same ih = omega (arith, ih)
 
   -- told place by place
-  pub tell : (i : ℕ) (xs : List A) → ((k : ℕ) (d : A) → k < length xs → list_any (λ p. p == i + k) places ≡ e (get_or xs k d)) → TellFrom i xs
+  pub tell : (i : ℕ) (xs : List A)
+      → ((k : ℕ) (d : A) → k < length xs → list_any (λ p. p == i + k) places ≡ e (get_or xs k d)) → TellFrom i xs
   tell i [] each = tt
   tell i (x ∷ xs) each = (
     subst (λ n. list_any (λ p. p == n) places ≡ e x) (none i) (each 0 x (omega arith)),
-    tell (suc i) xs (λ k d h. subst (λ n. list_any (λ p. p == n) places ≡ e (get_or xs k d)) (next i k) (each (suc k) d (omega (arith, h)))),
+    tell (suc i) xs (λ k d h. subst (λ n. list_any (λ p. p == n) places ≡ e (get_or xs k d)) (next i k)
+        (each (suc k) d (omega (arith, h)))),
   )
     where
       none : (i : ℕ) → i + 0 ≡ i
@@ -74,10 +78,12 @@ taken-none i [] = refl
 taken-none i (x ∷ xs) = taken-none (suc i) xs
 
 -- a place before the list takes nothing
-taken-skip : {A : Type 0} (i p : ℕ) (places : List ℕ) (xs : List A) → p < i → taken_from i (p ∷ places) xs ≡ taken_from i places xs
+taken-skip : {A : Type 0} (i p : ℕ) (places : List ℕ) (xs : List A) → p < i
+    → taken_from i (p ∷ places) xs ≡ taken_from i places xs
 taken-skip i p places [] h = refl
 taken-skip i p places (x ∷ xs) h =
-    ap₂ (λ b ys. cond b (x ∷ ys) ys) (other (p == i) (ne_eqb p i (λ e. omega (arith, e, h)))) (taken-skip (suc i) p places xs (omega arith))
+    ap₂ (λ b ys. cond b (x ∷ ys) ys) (other (p == i) (ne_eqb p i (λ e. omega (arith, e, h))))
+    (taken-skip (suc i) p places xs (omega arith))
   where
     other : (b : Bool) → b ≡ false → (b || list_any (λ p. p == i) places) ≡ list_any (λ p. p == i) places
     other true e = cc
@@ -89,13 +95,15 @@ at_end (y ∷ pre) x d xs = at_end pre x d xs
 
 none_here : (i : ℕ) (places : List ℕ) → AllByRecursion (λ p. i < p) places → list_any (λ p. p == i) places ≡ false
 none_here i [] all = refl
-none_here i (p ∷ places) all = by (p == i) (ne_eqb p i (λ e. (let h = all.0 in omega (arith, e)))) (none_here i places all.1)
+none_here i (p ∷ places) all = by (p == i) (ne_eqb p i (λ e. (let h = all.0 in omega (arith, e))))
+    (none_here i places all.1)
   where
     by : (b : Bool) → b ≡ false → list_any (λ p. p == i) places ≡ false → (b || list_any (λ p. p == i) places) ≡ false
     by true e h = cc
     by false e h = h
 
-all_after : (i p : ℕ) (places : List ℕ) → i ≤ p → AllByRecursion (λ q. p < q) places → AllByRecursion (λ q. i < q) places
+all_after : (i p : ℕ) (places : List ℕ) → i ≤ p → AllByRecursion (λ q. p < q) places
+    → AllByRecursion (λ q. i < q) places
 all_after i p [] h all = tt
 all_after i p (q ∷ places) h all = (let a = all.0 in omega arith, all_after i p places h all.1)
 
@@ -103,16 +111,21 @@ all_after i p (q ∷ places) h all = (let a = all.0 in omega arith, all_after i 
 abbrev pub Within : ℕ → ℕ → List ℕ → Type 0
 Within low high places = AllByRecursion (λ p. (low ≤ p) × (p < high)) places
 
-within_more : (i p high : ℕ) (places : List ℕ) → i ≤ p → AllByRecursion (λ q. p < q) places → Within i high places → Within (suc i) high places
+within_more : (i p high : ℕ) (places : List ℕ) → i ≤ p → AllByRecursion (λ q. p < q) places → Within i high places
+    → Within (suc i) high places
 within_more i p high [] h all w = tt
-within_more i p high (q ∷ places) h all w = (let a = all.0 in (omega arith, w.0.1), within_more i p high places h all.1 w.1)
+within_more i p high (q ∷ places) h all w =
+    (let a = all.0 in (omega arith, w.0.1), within_more i p high places h all.1 w.1)
 
-taken_is : {A : Type 0} (pre xs : List A) (d : A) (places : List ℕ) → InOrder (λ p q. p < q) places → Within (length pre) (length pre + length xs) places
+taken_is : {A : Type 0} (pre xs : List A) (d : A) (places : List ℕ) → InOrder (λ p q. p < q) places
+    → Within (length pre) (length pre + length xs) places
     → taken_from (length pre) places xs ≡ map (λ p. get_or (pre ++ xs) p d) places
 taken_is pre [] d [] up w = refl
 taken_is pre [] d (p ∷ places) up w = absurd (let h = w.0 in omega arith)
 taken_is pre (x ∷ xs) d [] up w = taken-none (length pre) (x ∷ xs)
-taken_is {A} pre (x ∷ xs) d (p ∷ places) up w = by (cases_eq p (length pre)) (taken_is (pre ++ x ∷ []) xs d places up.1) (taken_is (pre ++ x ∷ []) xs d (p ∷ places) up)
+taken_is {A} pre (x ∷ xs) d (p ∷ places) up w =
+    by (cases_eq p (length pre)) (taken_is (pre ++ x ∷ []) xs d places up.1)
+    (taken_is (pre ++ x ∷ []) xs d (p ∷ places) up)
   where
     one : length (pre ++ x ∷ []) ≡ suc (length pre)
     one = let l = length_push pre x in omega arith
@@ -138,20 +151,29 @@ taken_is {A} pre (x ∷ xs) d (p ∷ places) up w = by (cases_eq p (length pre))
         → (Within (length (pre ++ x ∷ [])) (length (pre ++ x ∷ []) + length xs) places
         → taken_from (length (pre ++ x ∷ [])) places xs ≡ map (λ p. get_or ((pre ++ x ∷ []) ++ xs) p d) places)
         → (Within (length (pre ++ x ∷ [])) (length (pre ++ x ∷ []) + length xs) (p ∷ places)
-        → taken_from (length (pre ++ x ∷ [])) (p ∷ places) xs ≡ map (λ p. get_or ((pre ++ x ∷ []) ++ xs) p d) (p ∷ places))
+        → taken_from (length (pre ++ x ∷ [])) (p ∷ places) xs ≡ map (λ p. get_or ((pre ++ x ∷ []) ++ xs) p d)
+        (p ∷ places))
         → taken_from (length pre) (p ∷ places) (x ∷ xs) ≡ map (λ p. get_or (pre ++ x ∷ xs) p d) (p ∷ places)
     by (inl e) less more =
-        ap (λ b. cond (b || list_any (λ q. q == length pre) places) (x ∷ taken_from (suc (length pre)) (p ∷ places) xs) (taken_from (suc (length pre)) (p ∷ places) xs))
+        ap (λ b. cond (b || list_any (λ q. q == length pre) places) (x ∷ taken_from (suc (length pre)) (p ∷ places) xs)
+        (taken_from (suc (length pre)) (p ∷ places) xs))
         (eq-eqb p (length pre) e)
         ∙ ap₂ (λ y ys. y ∷ ys) (sym (at_end pre x d xs) ∙ ap (λ n. get_or (pre ++ x ∷ xs) n d) (sym e))
         (taken-skip (suc (length pre)) p places xs (omega (arith, e))
-        ∙ moved places (less (within places (within_more (length pre) p (length pre + suc (length xs)) places (omega (arith, e)) up.0 w.1))))
+        ∙ moved places (less (within places
+        (within_more (length pre) p (length pre + suc (length xs)) places (omega (arith, e)) up.0 w.1))))
     by (inr other) less more =
         let low = w.0.0 in
         let after : length pre < p = omega (arith, low, other) in
-        ap (λ b. cond b (x ∷ taken_from (suc (length pre)) (p ∷ places) xs) (taken_from (suc (length pre)) (p ∷ places) xs))
+        ap (λ b. cond b (x ∷ taken_from (suc (length pre)) (p ∷ places) xs)
+        (taken_from (suc (length pre)) (p ∷ places) xs))
         (none_here (length pre) (p ∷ places) (after, all_after (length pre) p places low up.0))
-        ∙ moved (p ∷ places) (more (within (p ∷ places) ((after, w.0.1), within_more (length pre) p (length pre + suc (length xs)) places low up.0 w.1)))
+        ∙ moved (p ∷ places) (more
+        (within (p ∷ places) (
+          (after, w.0.1),
+          within_more (length pre) p
+              (length pre + suc (length xs)) places low up.0 w.1,
+        )))
 
 rises : (xs : List ℕ) → IsStrictlySortedBy nat_cmp xs → InOrder (λ p q. p < q) xs
 unfolding IsStrictlySortedBy

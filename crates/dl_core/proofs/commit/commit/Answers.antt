@@ -22,7 +22,9 @@ returns-in-Some c = λ numbering stream rule.
     ∙ new_are edits decided c.in_ok-decided.ensures.ascending c.in_ok-decided.ensures.exact root in
     let why = c.in_ok-why.ensures edits c.in_ok-ontology.ensures.edited (c.len.ensures ∙ ap length new) in
     ap {B = Root × Reply} (λ r. (r, reply.Refused c.in-Some.why)) c.in_ok-copy.ensures
-    ∙ ap (λ o. refused_or root o (committed numbering root edits, reply.Committed (root.version + 1) (committed numbering root edits).current.id)) (sym c.in-Some.is ∙ why)
+    ∙ ap (λ o. refused_or root o
+    (committed numbering root edits, reply.Committed (root.version + 1) (committed numbering root edits).current.id))
+    (sym c.in-Some.is ∙ why)
 
 pub committed-requires-clause-commit : goal.committed-requires-clause-commit
 committed-requires-clause-commit c =
@@ -33,7 +35,13 @@ committed-requires-clause-commit c =
     ∙ new_are edits decided c.in_ok-decided.ensures.ascending c.in_ok-decided.ensures.exact root in
     let why = c.in_ok-why.ensures edits c.in_ok-ontology.ensures.edited (c.len.ensures ∙ ap length new) in
     record {
-      to = record { edits = edits; edited = c.in_ok-ontology.ensures.edited; plain = c.requires.plain; accepted = sym why ∙ c.in_default.is };
+      to = record {
+        edits = edits;
+        edited = c.in_ok-ontology.ensures.edited;
+        plain = c.requires.plain;
+        accepted =
+            sym why ∙ c.in_default.is;
+      };
       new_are = c.as_slice-3.ensures ∙ new;
       gone_are = subst (AreGone root (edited_facts edits (root_facts root)))
           (sym (c.as_slice-4.ensures ∙ c.in_ok-gone.ensures ∙ ap (turned false (root_facts root)) c.as_slice-2.ensures))
@@ -49,7 +57,13 @@ returns c = λ numbering stream rule.
     ∙ new_are edits decided c.in_ok-decided.ensures.ascending c.in_ok-decided.ensures.exact root in
     let why = c.in_ok-why.ensures edits c.in_ok-ontology.ensures.edited (c.len.ensures ∙ ap length new) in
     let commit : IsCommit root c.in_ok-ontology.ontology c.as_slice-3.result.now c.as_slice-4.result.now = record {
-      to = record { edits = edits; edited = c.in_ok-ontology.ensures.edited; plain = c.requires.plain; accepted = sym why ∙ c.in_default.is };
+      to = record {
+        edits = edits;
+        edited = c.in_ok-ontology.ensures.edited;
+        plain = c.requires.plain;
+        accepted =
+            sym why ∙ c.in_default.is;
+      };
       new_are = c.as_slice-3.ensures ∙ new;
       gone_are = subst (AreGone root (edited_facts edits (root_facts root)))
           (sym (c.as_slice-4.ensures ∙ c.in_ok-gone.ensures ∙ ap (turned false (root_facts root)) c.as_slice-2.ensures))
@@ -58,4 +72,6 @@ returns c = λ numbering stream rule.
     answered c.in_ok-after.after (committed numbering root edits) c.book.result.now.version c.id-epoch.result
     (c.in_ok-after.ensures numbering rule commit) c.book.ensures.book.version
     (c.id-epoch.ensures.id ∙ ap (λ e. e.id) c.deref.ensures ∙ ap (λ e. e.id) c.current.ensures.epoch)
-    ∙ ap (λ o. refused_or root o (committed numbering root edits, reply.Committed (root.version + 1) (committed numbering root edits).current.id)) (sym (sym why ∙ c.in_default.is))
+    ∙ ap (λ o. refused_or root o
+    (committed numbering root edits, reply.Committed (root.version + 1) (committed numbering root edits).current.id))
+    (sym (sym why ∙ c.in_default.is))

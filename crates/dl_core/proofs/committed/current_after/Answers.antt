@@ -5,7 +5,8 @@ use Rattle.dl_epoch.specs.Covering.{kept}
 use Rattle.dl_core.proofs.committed.current_after.Goals as goal
 
 pub new_entry-requires : goal.new_entry-requires
-new_entry-requires c = buildable c.args.root.now c.args.ontology.now c.requires.accepted (kept c.current-current.result.now) c.current-current.ensures.epoch c.current-current.ensures.frozen
+new_entry-requires c = buildable c.args.root.now c.args.ontology.now c.requires.accepted
+    (kept c.current-current.result.now) c.current-current.ensures.epoch c.current-current.ensures.frozen
 
 pub overflow_add-current : goal.overflow_add-current
 overflow_add-current c =

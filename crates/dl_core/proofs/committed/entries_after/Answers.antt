@@ -17,8 +17,10 @@ returns c =
     let n = ap length c.entries-entries.ensures.entries in
     let m = length-map c.entries-entries.result.now kept in
     let count = c.older_count.ensures in
-    entries_are c.args.root.now book c.book-book.ensures.book c.args.opens c.older_count.result (omega (arith, n, m, count)) (kept c.args.current) (map kept c.push.new.self)
+    entries_are c.args.root.now book c.book-book.ensures.book c.args.opens c.older_count.result
+    (omega (arith, n, m, count)) (kept c.args.current) (map kept c.push.new.self)
     (ap (map kept) c.in_ok-push.ensures.ok ∙ map-append kept c.in_ok-after.after (c.args.current ∷ [])
     ∙ ap (λ ks. ks ++ kept c.args.current ∷ [])
-    (c.in_ok-after.ensures ∙ ap (map kept) c.split_at.ensures.front ∙ sym (take-map kept c.older_count.result c.entries-entries.result.now)
+    (c.in_ok-after.ensures ∙ ap (map kept) c.split_at.ensures.front
+    ∙ sym (take-map kept c.older_count.result c.entries-entries.result.now)
     ∙ ap (take c.older_count.result) c.entries-entries.ensures.entries))

@@ -10,8 +10,10 @@ with-requires-clause-fits c =
     let rows = c.args.shard.now in
     let places = c.args.places.now in
     let ended = c.in_ok-ended_rows.field-0 in
-    let n = ap length c.in_ok-ended_rows.ensures ∙ length-map places (λ p. ended_at c.args.version (get_or rows p blank)) in
-    let a = ap length (c.as_slice.ensures.value ∙ c.in_ok-extend_from_slice.ensures.items) ∙ length-append c.into_vec-rows.result.items c.args.new.now in
+    let n = ap length c.in_ok-ended_rows.ensures
+    ∙ length-map places (λ p. ended_at c.args.version (get_or rows p blank)) in
+    let a = ap length (c.as_slice.ensures.value ∙ c.in_ok-extend_from_slice.ensures.items)
+    ∙ length-append c.into_vec-rows.result.items c.args.new.now in
     let b = ap length c.into_vec-rows.ensures in
     let whole = length-left rows places c.requires.ascending c.requires.within in
     let fits = c.requires.fits in

@@ -12,6 +12,7 @@ loop-place-preserved c =
     let i = c.loop-place.place-index in
     c.in_ok-push.ensures.ok
     ∙ ap₂ (λ rs r. rs ++ r ∷ []) c.loop-place.invariant
-    (c.ended_at.ensures ∙ ap (ended_at c.args.version) (sym (get_or_from_slice_get rows (get_or places i 0) c.row.result blank c.row.ensures)))
+    (c.ended_at.ensures ∙ ap (ended_at c.args.version)
+    (sym (get_or_from_slice_get rows (get_or places i 0) c.row.result blank c.row.ensures)))
     ∙ sym (map-append (λ p. ended_at c.args.version (get_or rows p blank)) (take i places) (get_or places i 0 ∷ []))
     ∙ sym (ap (map (λ p. ended_at c.args.version (get_or rows p blank))) (take_more places i 0 c.loop-place-test.true))

@@ -8,7 +8,9 @@ use Rattle.dl_core.proofs.committed_shard.found_places.Goals as goal
 use Rattle.dl_core.proofs.committed_shard.found_places.Goals.{in-Some+in_ok-push, in_default}
 
 pub loop-fact-init : goal.loop-fact-init
-loop-fact-init c = subst (λ ps. (p : ℕ) → Contains ps p ↔ IsPlaceIn c.args.root.now c.args.i (take 0 c.args.facts.now) p) (sym c.new-places.ensures) (no_places c.args.root.now c.args.i)
+loop-fact-init c = subst
+    (λ ps. (p : ℕ) → Contains ps p ↔ IsPlaceIn c.args.root.now c.args.i (take 0 c.args.facts.now) p)
+    (sym c.new-places.ensures) (no_places c.args.root.now c.args.i)
 
 pub loop-fact-preserved : goal.loop-fact-preserved
 loop-fact-preserved c =
@@ -20,8 +22,10 @@ loop-fact-preserved c =
     elim c.match-place_here.branch [
       | in-Some+in_ok-push w ↦
           subst (λ fs. (p : ℕ) → Contains c.match-place_here.places p ↔ IsPlaceIn root c.args.i fs p) more
-          (subst (λ ps. (p : ℕ) → Contains ps p ↔ IsPlaceIn root c.args.i (take k facts ++ f ∷ []) p) (sym (w.places-is ∙ w.in_ok-push.ensures.ok))
-          (places_more root c.args.i (take k facts) c.loop-fact.places c.loop-fact.invariant f w.in-Some.place w.in-Some.ensures))
+          (subst (λ ps. (p : ℕ) → Contains ps p ↔ IsPlaceIn root c.args.i (take k facts ++ f ∷ []) p)
+          (sym (w.places-is ∙ w.in_ok-push.ensures.ok))
+          (places_more root c.args.i (take k facts) c.loop-fact.places c.loop-fact.invariant f w.in-Some.place
+          w.in-Some.ensures))
       | in_default w ↦
           subst (λ fs. (p : ℕ) → Contains c.match-place_here.places p ↔ IsPlaceIn root c.args.i fs p) more
           (subst (λ ps. (p : ℕ) → Contains ps p ↔ IsPlaceIn root c.args.i (take k facts ++ f ∷ []) p) (sym w.places-is)

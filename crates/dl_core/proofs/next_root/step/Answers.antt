@@ -14,12 +14,16 @@ pub returns-clause-keeps : goal.returns-clause-keeps
 returns-clause-keeps c = λ load history stands.
     let root = c.args.root.now in
     let event = c.args.event.now in
-    IfOk-weaker c.stepped.result (λ after. after ≡ next rule_exists.0 root c.args.stream event) (λ after. StandsFor load (longer history c.args.stream event after.1) after.0)
-    (λ after is. step_keeps rule_exists.0 rule_exists.1 root c.args.stream event c.requires load history stands after is) (c.stepped.ensures rule_exists.0 rule_exists.1)
+    IfOk-weaker c.stepped.result (λ after. after ≡ next rule_exists.0 root c.args.stream event)
+    (λ after. StandsFor load (longer history c.args.stream event after.1) after.0)
+    (λ after is. step_keeps rule_exists.0 rule_exists.1 root c.args.stream event c.requires load history stands after
+    is) (c.stepped.ensures rule_exists.0 rule_exists.1)
 
 pub returns-clause-legal : goal.returns-clause-legal
 returns-clause-legal c = λ numbering rule load history legal at.
     let root = c.args.root.now in
     let event = c.args.event.now in
-    IfOk-weaker c.stepped.result (λ after. after ≡ next numbering root c.args.stream event) (IsStep numbering load history c.args.stream event)
-    (λ after is. step_legal numbering root c.args.stream event c.requires load history legal at after is) (c.stepped.ensures numbering rule)
+    IfOk-weaker c.stepped.result (λ after. after ≡ next numbering root c.args.stream event)
+    (IsStep numbering load history c.args.stream event)
+    (λ after is. step_legal numbering root c.args.stream event c.requires load history legal at after is)
+    (c.stepped.ensures numbering rule)

@@ -7,16 +7,20 @@ use Rattle.dl_core.proofs.next_root.stepped.Goals as goal
 pub returns-in-Commit : goal.returns-in-Commit
 returns-in-Commit c = λ numbering rule.
     ok_is c.commit.result (c.commit.ensures numbering c.args.stream rule)
-    (ap (λ edits. next numbering c.args.root.now c.args.stream (event.Commit edits)) c.as_slice.ensures ∙ sym (ap (next numbering c.args.root.now c.args.stream) c.in-Commit.is))
+    (ap (λ edits. next numbering c.args.root.now c.args.stream (event.Commit edits)) c.as_slice.ensures
+    ∙ sym (ap (next numbering c.args.root.now c.args.stream) c.in-Commit.is))
 
 pub returns-in-Pin : goal.returns-in-Pin
 returns-in-Pin c = λ numbering rule.
-    ok_is c.pinned.result (c.pinned.ensures numbering) (sym (ap (next numbering c.args.root.now c.args.stream) c.in-Pin.is))
+    ok_is c.pinned.result (c.pinned.ensures numbering)
+    (sym (ap (next numbering c.args.root.now c.args.stream) c.in-Pin.is))
 
 pub returns-in-Unpin : goal.returns-in-Unpin
 returns-in-Unpin c = λ numbering rule.
-    ok_is c.unpinned.result (c.unpinned.ensures numbering) (sym (ap (next numbering c.args.root.now c.args.stream) c.in-Unpin.is))
+    ok_is c.unpinned.result (c.unpinned.ensures numbering)
+    (sym (ap (next numbering c.args.root.now c.args.stream) c.in-Unpin.is))
 
 pub returns-in-Look : goal.returns-in-Look
 returns-in-Look c = λ numbering rule.
-    ok_is c.look.result (c.look.ensures numbering c.args.stream) (sym (ap (next numbering c.args.root.now c.args.stream) c.in-Look.is))
+    ok_is c.look.result (c.look.ensures numbering c.args.stream)
+    (sym (ap (next numbering c.args.root.now c.args.stream) c.in-Look.is))
