@@ -1,0 +1,6 @@
+pub mod Lists
+pub mod Tallies
+pub mod Runs
+pub mod Picking
+pub mod Sweeping
+pub mod Reclaiming

@@ -1,0 +1,11 @@
+// Maintenance: rows get the numbers of another epoch, rows that end by a horizon are dropped, and the epochs that
+// nothing needs any more are told.
+#![tactic(auto)]
+
+mod pick;
+mod reclaim;
+mod sweep;
+mod tally;
+
+pub use reclaim::dead;
+pub use sweep::{SweptShard, swept};
