@@ -5,3 +5,6 @@ mod PickedLemmas
 mod TallyLemmas
 mod SweepLemmas
 mod CoverLemmas
+mod NameLemmas
+mod MoveLemmas
+mod MovedLemmas

@@ -1,9 +1,10 @@
 -- Lists of which the first items that pass a test are changed, dropped or taken: their counts, lengths and order.
-use Rattle.std.proofs.Common.{◌≡◌, ℕ, zero, suc, ◌+◌, ◌-◌, Bool, true, false, cond, List, [], ◌∷◌, ◌++◌, filter, take, drop, length, min, slice_get, Some, None, Option, refl, sym, ap, ap₂, subst, ◌∙◌, arith}
-use Rattle.std.specs.List.{AllByRecursion}
+use Rattle.std.proofs.Common.{◌≡◌, ℕ, zero, suc, ◌+◌, ◌-◌, Bool, true, false, cond, List, [], ◌∷◌, ◌++◌, map, filter, take, drop, length, min, slice_get, Some, None, Option, refl, sym, ap, ap₂, subst, ◌∙◌, arith}
+use Rattle.std.specs.List.{All, AllByRecursion}
 use Rattle.std.proofs.lemmas.List.{length-take}
+use Rattle.std.proofs.lemmas.List.Elements.{All-head, All-tail}
 use Rattle.dl_row.specs.Lists.{count, InOrder}
-use Rattle.dl_migrate.specs.Lists.{drop_first, first_that}
+use Rattle.dl_migrate.specs.Lists.{change_first, drop_first, first_that}
 
 module _ {A : Type 0} where
   pub take-nil : (n : ℕ) → take {A = A} n [] ≡ []
@@ -124,3 +125,45 @@ count-drop p xs i x read = ap (count p) (drop_read xs i x read) ∙ ap (λ k. co
   where
     next : suc i ≡ i + 1
     next = omega arith
+
+-- changes of the first items: what is left, and the others changed
+pub count_changed : {A : Type 0} (p q : A → Bool) (f : A → A) (n : ℕ) (xs : List A)
+    → count q (change_first n p f xs) ≡ count q (drop_first n p xs) + count q (map f (first_that n p xs))
+count_changed p q f n [] = let e = ap (λ ys. count q (map f ys)) (take-nil n) in omega (arith, e)
+count_changed p q f zero (x ∷ xs) = omega arith
+count_changed {A} p q f (suc n) (x ∷ xs) = by (p x) (count_changed p q f n xs) (count_changed p q f (suc n) xs)
+  where
+    by : (b : Bool) → count q (change_first n p f xs) ≡ count q (drop_first n p xs) + count q (map f (take n (filter p xs)))
+        → count q (change_first (suc n) p f xs) ≡ count q (drop_first (suc n) p xs) + count q (map f (take (suc n) (filter p xs)))
+        → count q (cond b (f x ∷ change_first n p f xs) (x ∷ change_first (suc n) p f xs))
+        ≡ count q (cond b (drop_first n p xs) (x ∷ drop_first (suc n) p xs)) + count q (map f (take (suc n) (cond b (x ∷ filter p xs) (filter p xs))))
+    by true less more = omega (arith, less)
+    by false less more = omega (arith, more)
+
+-- they keep a count where each keeps the test
+pub count-change_first : {A : Type 0} (p q : A → Bool) (f : A → A) (n : ℕ) (xs : List A) → All (λ x. q (f x) ≡ q x) xs
+    → count q (change_first n p f xs) ≡ count q xs
+count-change_first p q f n [] all = refl
+count-change_first p q f zero (x ∷ xs) all = refl
+count-change_first {A} p q f (suc n) (x ∷ xs) all =
+    by (p x) (All-head (λ y. q (f y) ≡ q y) x xs all) (count-change_first p q f n xs (All-tail (λ y. q (f y) ≡ q y) x xs all))
+    (count-change_first p q f (suc n) xs (All-tail (λ y. q (f y) ≡ q y) x xs all))
+  where
+    by : (b : Bool) → q (f x) ≡ q x → count q (change_first n p f xs) ≡ count q xs → count q (change_first (suc n) p f xs) ≡ count q xs
+        → count q (cond b (f x ∷ change_first n p f xs) (x ∷ change_first (suc n) p f xs)) ≡ cond (q x) 1 0 + count q xs
+    by true e less more = ap₂ (λ b m. cond b 1 0 + m) e less
+    by false e less more = ap (λ m. cond (q x) 1 0 + m) more
+
+-- a test that gives one answer at all items
+pub count-fixed : {A : Type 0} (q : A → Bool) (b : Bool) (xs : List A) → All (λ x. q x ≡ b) xs → count q xs ≡ cond b (length xs) 0
+count-fixed q b [] all = by b
+  where
+    by : (b : Bool) → ◌≡◌ {A = ℕ} 0 (cond b 0 0)
+    by true = refl
+    by false = refl
+count-fixed {A} q b (x ∷ xs) all =
+    ap₂ (λ c n. cond c 1 0 + n) (All-head (λ y. q y ≡ b) x xs all) (count-fixed q b xs (All-tail (λ y. q y ≡ b) x xs all)) ∙ by b
+  where
+    by : (b : Bool) → cond b 1 0 + cond b (length xs) 0 ≡ cond b (suc (length xs)) 0
+    by true = omega arith
+    by false = omega arith

@@ -4,3 +4,5 @@ pub mod Runs
 pub mod Picking
 pub mod Sweeping
 pub mod Reclaiming
+pub mod Moving
+pub mod Naming

@@ -2,10 +2,13 @@
 // nothing needs any more are told.
 #![tactic(auto)]
 
+mod migrate;
+mod number;
 mod pick;
 mod reclaim;
 mod sweep;
 mod tally;
 
+pub use migrate::{Moved, renumber};
 pub use reclaim::dead;
 pub use sweep::{SweptShard, swept};

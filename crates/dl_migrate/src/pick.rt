@@ -4,6 +4,7 @@ ghost use Rattle.dl_row.specs.Lists.{Ascends};
 ghost use Rattle.dl_row.specs.Rows.{row_cmp};
 ghost use Rattle.dl_row.specs.Shards.{max_rows};
 ghost use Rattle.dl_migrate.specs.Picking.{ArePicked};
+ghost use Rattle.dl_migrate.specs.Moving.{is_behind};
 ghost use Rattle.dl_migrate.specs.Sweeping.{is_over};
 
 use dl_row::{PlainShard, Row};
@@ -36,6 +37,26 @@ pub fn picked_over(
     for i in 0..shard.len() {
         let row = shard.row(i);
         if row.last <= horizon {
+            add(&mut picked, n, i, row)?;
+        }
+    }
+    Ok(picked)
+}
+
+/// The first rows that carry another epoch than the one with an id, `n` of them or all if there are fewer.
+pub fn picked_behind(alloc: Global, shard: &PlainShard, n: u64, id: u32) -> Result<Picked, NoMemory>
+    ensures picked { IfOk result (λ picked.
+        ArePicked n (is_behind id) shard.now picked.places picked.rows) }
+    ensures up { Ascends row_cmp shard.now }
+    ensures most { length shard.now ≤ max_rows }
+{
+    let mut picked = Picked {
+        places: List::new(alloc),
+        rows: List::new(alloc),
+    };
+    for i in 0..shard.len() {
+        let row = shard.row(i);
+        if row.epoch != id {
             add(&mut picked, n, i, row)?;
         }
     }
