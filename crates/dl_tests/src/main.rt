@@ -23,6 +23,8 @@ mod join_order;
 #[cfg(test)]
 mod lex;
 #[cfg(test)]
+mod migrate;
+#[cfg(test)]
 mod models;
 #[cfg(test)]
 mod names;

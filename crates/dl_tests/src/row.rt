@@ -89,7 +89,7 @@ fn are_places(places: &[u64], bound: u64) -> bool
 }
 
 /// Whether the shard has exactly these rows, in this order.
-fn has(shard: &PlainShard, rows: &[Row]) -> bool {
+pub(crate) fn has(shard: &PlainShard, rows: &[Row]) -> bool {
     if shard.len() != rows.len() as u64 {
         return false;
     }
