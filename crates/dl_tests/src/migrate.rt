@@ -17,14 +17,7 @@ const LATE: Row = class_row!(2, 2, 9, 5, 6);
 
 /// How many rows may go and the horizon; then the rows that stay, how many went, how many more may go, and by epoch how
 /// many went.
-type Sweep = (
-    u64,
-    u32,
-    &'static [Row],
-    u64,
-    u64,
-    &'static [(u32, u64)],
-);
+type Sweep = (u64, u32, &'static [Row], u64, u64, &'static [(u32, u64)]);
 
 const SWEEPS: [Sweep; 5] = [
     (9, 5, &[KEPT, LATE], 2, 0, &[(1, 1), (2, 1)]),
