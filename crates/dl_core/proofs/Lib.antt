@@ -33,5 +33,6 @@ pub mod PlaceLemmas
 pub mod FoundLemmas
 pub mod ChangeLemmas
 pub mod ShardChangeLemmas
+pub mod EntryLemmas
 pub mod CommittedLemmas
 pub mod StepLemmas

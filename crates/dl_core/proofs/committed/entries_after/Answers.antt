@@ -1,7 +1,7 @@
 use Rattle.std.proofs.Common.{◌∷◌, ◌++◌, [], map, take, length, sym, ap, ◌∙◌, arith}
 use Rattle.std.proofs.lemmas.List.{length-map, map-append, take-map}
 use Rattle.dl_epoch.specs.Covering.{kept}
-use Rattle.dl_core.proofs.CommittedLemmas.{entries_are, some_entries}
+use Rattle.dl_core.proofs.EntryLemmas.{entries_are, some_entries}
 use Rattle.dl_core.proofs.committed.entries_after.Goals as goal
 
 pub older_count-requires : goal.older_count-requires

@@ -6,7 +6,7 @@ use Rattle.dl_row.specs.Rows.{row_cmp}
 use Rattle.dl_core.specs.Root.{epochs, shard}
 use Rattle.dl_core.specs.Next.{ended}
 use Rattle.dl_core.specs.Committing.{AreShardsAfter}
-use Rattle.dl_core.proofs.CommittedLemmas.{no_shards, shard_more}
+use Rattle.dl_core.proofs.EntryLemmas.{no_shards, shard_more}
 use Rattle.dl_core.proofs.committed.shards_after.Goals as goal
 
 pub loop-i-init : goal.loop-i-init
