@@ -76,7 +76,9 @@ pin_again = Pin ∷ Commit (remove_axiom ∷ []) ∷ Unpin ∷ Pin ∷ []
 
 -- a fact removed and added in one commit, and in two
 abbrev pub remove_and_add : List Event
-remove_and_add = Commit (remove_a ∷ add_a ∷ []) ∷ Look 10 ∷ Commit (remove_a ∷ []) ∷ Commit (add_a ∷ []) ∷ Look 10 ∷ []
+remove_and_add =
+    Commit (remove_a ∷ add_a ∷ []) ∷ Look 10
+    ∷ Commit (remove_a ∷ []) ∷ Commit (add_a ∷ []) ∷ Look 10 ∷ []
 
 -- events that are refused, and one that isn't
 abbrev pub refused_events : List Event

@@ -1,5 +1,5 @@
 //! Laws of roots and histories.
-ghost use Rattle.std.specs.Prelude.{◌≡◌, ℕ, ◌+◌, ◌<◌, ◌≤◌, true, List, [], ◌∷◌, ◌++◌, Some, map};
+ghost use Rattle.std.specs.Prelude.{◌≡◌, ℕ, ◌+◌, ◌<◌, ◌≤◌, true, List, [], ◌++◌, Some, map};
 ghost use Rattle.std.specs.List.{All, Contains, filter, flat_map, slice_index_or as get_or};
 ghost use Rattle.dl_terms.specs.Order.{fact_cmp};
 ghost use Rattle.dl_terms.specs.declared.axiom.Axiom.{Axiom};
@@ -17,6 +17,7 @@ ghost use Rattle.dl_core.specs.Next.{Numbering, committed, committed_epoch, ende
 ghost use Rattle.dl_core.specs.Next.{IsReady, GoesByRule, loaded, next, row_for, committed_rows};
 ghost use Rattle.dl_core.specs.Loading.{IsLoadOf};
 ghost use Rattle.dl_core.specs.Legal.{asked, IsLegal, IsLegalFrom, root_of, Reader, ReaderStandsFor};
+ghost use Rattle.dl_core.specs.Steps.{longer};
 ghost use Rattle.dl_core.specs.declared.event.Edit.{Edit};
 ghost use Rattle.dl_core.specs.declared.event.Event.{Event};
 
@@ -26,7 +27,7 @@ pub fn roots_stand_for_histories()
         → StandsFor l [] (loaded numbering l) }
     ensures next { (numbering : Numbering) (l : Load) (history : List Entry) (root : Root)
         → StandsFor l history root → (stream : ℕ) (e : Event) → IsNumbering numbering → IsReady root
-        → StandsFor l (history ++ record { stream = stream; event = e; reply = (next numbering root stream e).1 } ∷ [])
+        → StandsFor l (longer history stream e (next numbering root stream e).1)
         (next numbering root stream e).0 }
     ensures legal { (numbering : Numbering) (l : Load) (history : List Entry) → IsNumbering numbering
         → IsLoad l → IsLegal numbering l history → StandsFor l history (root_of numbering l history) }
@@ -117,8 +118,8 @@ pub fn lists_are_one_load()
 
 /// A reader with a pin reads what the pinned version has, by each list of entries that it stands for.
 pub fn readers_read_their_pins()
-    ensures { (numbering : Numbering) (l : Load) (seen : List Entry) (reader : Reader) (v : ℕ) → IsNumbering numbering
-        → IsLoad l → ReaderStandsFor numbering l seen reader → reader.pin ≡ Some v
+    ensures { (numbering : Numbering) (l : Load) (seen : List Entry) (reader : Reader) (v : ℕ)
+        → IsNumbering numbering → IsLoad l → ReaderStandsFor numbering l seen reader → reader.pin ≡ Some v
         → ReadsAs (epochs reader.root) reader.root.rows v (axioms_at l seen v) (signature_at l seen v)
         (facts_at l seen v) }
 {}

@@ -34,8 +34,9 @@ impl RootReads {
     /// The reader of a root for a stream. It takes no memory.
     pub fn new(root: Root, stream: u32) -> RootReads
         ensures reader { result ≡ plain_reader root stream 0 }
-        ensures stands { (numbering : Numbering) (l : Load) (seen : Items Entry) → IsNumbering numbering → IsLoad l →
-            IsLegal numbering l seen → root ≡ root_of numbering l seen → ReaderStandsFor numbering l seen result }
+        ensures stands { (numbering : Numbering) (l : Load) (seen : Items Entry) →
+            IsNumbering numbering → IsLoad l → IsLegal numbering l seen →
+            root ≡ root_of numbering l seen → ReaderStandsFor numbering l seen result }
     {
         // There is a first shard.
         let _shards = root.shards();
