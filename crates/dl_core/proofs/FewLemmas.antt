@@ -1,5 +1,5 @@
 -- How many predicates there are, in the words of the crates below.
-use Rattle.std.proofs.Common.{◌≡◌, ◌≢◌, ℕ, zero, suc, ◌+◌, ◌≤◌, Bool, true, false, ◌||◌, cond, List, [], ◌∷◌, length, AllPairs, Contains, refl, sym, ap, subst, ◌∙◌, arith}
+use Rattle.std.proofs.Common.{◌≡◌, ◌≢◌, ℕ, ◌≤◌, Bool, true, false, ◌||◌, cond, List, [], ◌∷◌, length, AllPairs, Contains, refl, sym, ap, ◌∙◌, arith}
 use Rattle.std.specs.Ordering.{is_eq}
 use Rattle.std.specs.declared.cmp.Ordering.{Ordering}
 use Rattle.std.proofs.lemmas.List.Kept.{AllPairs-cons}
@@ -9,17 +9,14 @@ use Rattle.dl_terms.specs.declared.axiom.Signature.{Signature}
 use Rattle.dl_terms.proofs.OrderLemmas.{IsLinear, pairs_linear, roles_linear, numbers_linear}
 use Rattle.dl_normal.specs.Filled.{filled_pairs, HasDistinct}
 use Rattle.dl_hier.specs.Predicates.{max_predicates}
-use Rattle.dl_hier.proofs.SortedLemmas.{no_longer}
 use Rattle.dl_epoch.specs.Known.{ArePredicatesFew}
 use Rattle.dl_epoch.proofs.FewLemmas.{one_count}
-use Rattle.dl_row.specs.Lists.{count, ordered}
-use Rattle.dl_row.proofs.CountLemmas.{count-ordered, count_there, same_itself, same_is}
-use Rattle.dl_row.proofs.OrderedLemmas.{ordered-ascends, length-ordered}
+use Rattle.dl_row.specs.Lists.{count}
+use Rattle.dl_row.proofs.CountLemmas.{same_itself}
 use Rattle.dl_core.specs.Sets.{has, with_items, IsOnce}
 use Rattle.dl_core.specs.Names.{filler_cmp, fillers, predicates}
 use Rattle.dl_core.proofs.SetLemmas.{has-with_items, once-with_items, once-nil, has_there, there_has}
 use Rattle.dl_core.proofs.FactLemmas.{there_counts}
-use Rattle.dl_core.proofs.AscendLemmas.{strictly_sorted}
 
 fillers_linear : IsLinear filler_cmp
 fillers_linear = pairs_linear roles_linear numbers_linear

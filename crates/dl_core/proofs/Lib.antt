@@ -36,3 +36,7 @@ pub mod ShardChangeLemmas
 pub mod EntryLemmas
 pub mod CommittedLemmas
 pub mod StepLemmas
+pub mod GrowthLemmas
+pub mod FactSignatureLemmas
+pub mod PinnedShardLemmas
+pub mod PinnedEpochLemmas

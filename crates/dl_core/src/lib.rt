@@ -2,6 +2,7 @@
 // versions, and the next root of each event.
 #![tactic(auto)]
 
+mod answer;
 mod book;
 mod changes;
 mod commit;
@@ -26,6 +27,7 @@ mod next_root;
 mod ontology;
 mod opening;
 mod pins;
+pub mod reader_laws;
 mod reads;
 mod reply;
 mod root;
@@ -33,6 +35,7 @@ mod root_reads;
 mod sets;
 pub mod worked_examples;
 
+pub use answer::{Answer, AskFault, Placed};
 pub use book::{Book, Pin};
 pub use event::{Edit, Event, Item};
 pub use fault::LoadFault;
