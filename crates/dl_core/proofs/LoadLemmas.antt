@@ -236,6 +236,7 @@ module _ (l : Load) (is : IsLoad l) (e : Frozen) (frozen : IsFrozen e) (id : e.i
   pub made_loaded : (root : Root) → root ≡ root_over book made → IsLoadWithin l → IsLoaded l root
   made_loaded root same within = record {
     within = none_passed l within.weights within.few within.kept;
+    is_load = is;
     is = λ numbering rule. same ∙ held_root (loaded numbering l) book made (held numbering rule);
     legal = λ numbering. tt;
     stands =

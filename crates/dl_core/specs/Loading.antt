@@ -19,7 +19,7 @@ use Rattle.dl_epoch.specs.Frozen.{Frozen}
 use Rattle.dl_epoch.specs.Covering.{Kept}
 use Rattle.dl_core.specs.Names.{predicates}
 use Rattle.dl_core.specs.History.{Load}
-use Rattle.dl_core.specs.Root.{Root, stands_in, StandsFor}
+use Rattle.dl_core.specs.Root.{Root, stands_in, StandsFor, IsLoad}
 use Rattle.dl_core.specs.Next.{Numbering, GoesByRule, loaded, load_refused}
 use Rattle.dl_core.specs.Legal.{IsLegal}
 use Rattle.dl_core.specs.declared.book.Book.{Book}
@@ -42,6 +42,7 @@ pub record IsLoadOf (axioms : List Axiom) (signature : Signature) (facts : List 
 -- the root of a load that passes no limit: it stands for the empty history, which is legal, and it is the root of that
 pub record IsLoaded (l : Load) (root : Root) : Type 0 where
   pub within : load_refused l ≡ None
+  pub is_load : IsLoad l
   pub is : (numbering : Numbering) → GoesByRule numbering → root ≡ loaded numbering l
   pub legal : (numbering : Numbering) → IsLegal numbering l []
   pub stands : StandsFor l [] root
