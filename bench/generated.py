@@ -31,16 +31,18 @@ def axioms():
     return lines + ["ObjectPropertyDomain(<p0> <c03>)"]
 
 
-def facts(size, seed=1):
-    """The class facts, as classes with individuals, and the role facts, as roles with two individuals."""
+def facts(size, seed=1, individuals=None):
+    """The class facts, as classes with individuals, and the role facts, as roles with two individuals. Unless said otherwise there are as
+    many individuals as draws."""
+    individuals = individuals or size
     draw = draws(seed)
     next(draw)
     members, links = [], []
     for _ in range(size):
         if draw.send(2) == 0:
-            members.append((draw.send(CLASSES), draw.send(size)))
+            members.append((draw.send(CLASSES), draw.send(individuals)))
         else:
-            links.append((draw.send(ROLES), draw.send(size), draw.send(size)))
+            links.append((draw.send(ROLES), draw.send(individuals), draw.send(individuals)))
     return members, links
 
 
