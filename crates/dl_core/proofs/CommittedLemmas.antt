@@ -23,7 +23,8 @@ use Rattle.dl_epoch.specs.Frozen.{Frozen, IsFrozen, from_version}
 use Rattle.dl_epoch.specs.Covering.{Kept, epoch_in, AreEntries}
 use Rattle.dl_core.specs.Sets.{has}
 use Rattle.dl_core.specs.Edits.{edited_axioms, edited_signature, edited_facts}
-use Rattle.dl_core.specs.Root.{Root, IsLive, IsRowAt, StandsFor, AreKnown, knows, epochs, shard, stands_in, carries, rows_in}
+use Rattle.dl_core.specs.Root.{Root, IsLive, IsRowAt, StandsFor, AreKnown, knows, epochs, shard, stands_in, rows_in}
+use Rattle.dl_migrate.specs.Tallies.{carries}
 use Rattle.dl_core.specs.Next.{Numbering, GoesByRule, IsReady, epoch_from, row_for, root_facts, ended, ended_at, is_among, opens, same_signature, committed, committed_epoch, committed_older}
 use Rattle.dl_core.specs.Loading.{IsFactIn, AreParts}
 use Rattle.dl_core.specs.Held.{IsBookOf, IsHeld, IsSound, CountsRows}

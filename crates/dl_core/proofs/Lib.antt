@@ -7,6 +7,8 @@ pub mod CommitLemmas
 pub mod FactLemmas
 pub mod HistoryLemmas
 pub mod PinLemmas
+pub mod ChangedListLemmas
+pub mod MaintainLemmas
 pub mod CommitKeepLemmas
 pub mod RunLemmas
 pub mod ReadLemmas
@@ -18,6 +20,8 @@ pub mod ShardLemmas
 pub mod OpenLemmas
 pub mod HeldLemmas
 pub mod LookLemmas
+pub mod RefillLemmas
+pub mod MaintainedLemmas
 pub mod PinnedLemmas
 pub mod ReaderLemmas
 pub mod NewRowLemmas

@@ -29,7 +29,8 @@ use Rattle.dl_core.specs.Sets.{has}
 use Rattle.dl_core.specs.Names.{predicates}
 use Rattle.dl_core.specs.Sets.{with_items}
 use Rattle.dl_core.specs.History.{Load}
-use Rattle.dl_core.specs.Root.{Root, IsLoad, StandsFor, carries, stands_in, knows}
+use Rattle.dl_core.specs.Root.{Root, IsLoad, StandsFor, stands_in, knows}
+use Rattle.dl_migrate.specs.Tallies.{carries}
 use Rattle.dl_core.specs.Next.{Numbering, GoesByRule, epoch_from, row_for, loaded, load_refused, max_count}
 use Rattle.dl_core.specs.Held.{IsHeld, CountsRows, root_over}
 use Rattle.dl_core.specs.Loading.{IsFactIn, IsLoadWithin, IsLoadOf, IsLoaded, AreOrderedParts, first_entry, first_book, load_with}

@@ -23,7 +23,8 @@ use Rattle.dl_epoch.specs.Frozen.{Frozen, from_version}
 use Rattle.dl_epoch.specs.Covering.{Kept, kept, epoch_in}
 use Rattle.dl_epoch.specs.declared.entry.Entry.{Entry}
 use Rattle.dl_core.specs.Sets.{has, IsOnce}
-use Rattle.dl_core.specs.Root.{Root, IsNumbered, carries, epochs}
+use Rattle.dl_core.specs.Root.{Root, IsNumbered, epochs}
+use Rattle.dl_migrate.specs.Tallies.{carries}
 use Rattle.dl_core.specs.Names.{predicates}
 use Rattle.dl_core.specs.Next.{behind, looked}
 use Rattle.dl_core.specs.Held.{AreShardsOf, IsBookOf, IsSound, CountsRows}

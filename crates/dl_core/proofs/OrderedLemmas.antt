@@ -21,7 +21,7 @@ module _ {A : Type 0} (P : A → Type 0) where
   All-ordered cmp [] all = all
   All-ordered cmp (x ∷ xs) all = All-put cmp x (ordered cmp xs) (All-head P x xs all) (All-ordered cmp xs (All-tail P x xs all))
 
-  each-filter : (q : A → Bool) (xs : List A) → AllByRecursion P xs → AllByRecursion P (filter q xs)
+  pub each-filter : (q : A → Bool) (xs : List A) → AllByRecursion P xs → AllByRecursion P (filter q xs)
   each-filter q [] all = all
   each-filter q (x ∷ xs) all = by (q x) (each-filter q xs all.1)
     where

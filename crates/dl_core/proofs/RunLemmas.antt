@@ -1,5 +1,5 @@
 -- Every root of a legal history stands for it.
-use Rattle.std.proofs.Common.{◌≡◌, ℕ, ◌+◌, ◌-◌, ◌≤◌, Bool, true, false, ◌&&◌, cond, List, [], ◌∷◌, ◌++◌, map, take, length, Contains, Option, Some, None, refl, sym, ap, ap₂, subst, ◌∙◌, arith, append_assoc, append-nil}
+use Rattle.std.proofs.Common.{◌≡◌, ℕ, ◌+◌, ◌-◌, ◌≤◌, Bool, true, false, ◌&&◌, cond, nat_lt, min, List, [], ◌∷◌, ◌++◌, map, filter, take, length, Contains, Option, Some, None, refl, sym, ap, ap₂, subst, ◌∙◌, arith, append_assoc, append-nil}
 use Rattle.std.specs.Ordering.{is_eq}
 use Rattle.std.proofs.lemmas.List.{length-map, take-append-le}
 use Rattle.std.proofs.lemmas.List.Elements.{All-nil, All-push, All-map, filter_map-append, All-contains_itself}
@@ -15,7 +15,7 @@ use Rattle.dl_row.specs.Rows.{Epoch, fact_of, is_fact, visible, rows_for, row_cm
 use Rattle.dl_core.specs.Root.{Root, pin_in, IsLive, IsNumbered, IsPart, IsRowAt, RowsSay, ReadsAs, StandsFor, IsLoad}
 use Rattle.dl_epoch.specs.Known.{max_weight}
 use Rattle.dl_hier.specs.Predicates.{max_predicates}
-use Rattle.dl_core.specs.Next.{Numbering, IsNumbering, IsReady, epoch_from, row_for, loaded, committed, commit_refused, refused_or, pinned, unpinned, looked, next}
+use Rattle.dl_core.specs.Next.{Numbering, IsNumbering, IsReady, epoch_from, row_for, loaded, committed, commit_refused, refused_or, pinned, unpinned, migrated, swept, behind, is_behind_in, is_over_in, is_dead_in, reclaimed, looked, next}
 use Rattle.dl_core.specs.Legal.{asked, root_from, IsLegalFrom, IsLegal, root_of}
 use Rattle.dl_core.specs.declared.event.Edit.{Edit}
 use Rattle.dl_core.specs.declared.event.Event.{Event}
@@ -23,6 +23,7 @@ use Rattle.dl_core.specs.declared.event.Event.TheVariants as event
 use Rattle.dl_core.specs.declared.reply.Reply.{Reply}
 use Rattle.dl_core.specs.declared.reply.Reply.TheVariants as reply
 use Rattle.dl_core.specs.declared.reply.Refusal.{Refusal}
+use Rattle.dl_core.specs.declared.reply.Refusal.TheVariants.{NoShard}
 use Rattle.dl_row.proofs.CountLemmas.{count-ordered}
 use Rattle.dl_core.proofs.CountLemmas.{count-map, count-agree, count_once}
 use Rattle.dl_core.proofs.EditLemmas.{part_itself}
@@ -32,6 +33,7 @@ use Rattle.dl_core.proofs.OrderedLemmas.{All-ordered}
 use Rattle.dl_row.proofs.OrderedLemmas.{ordered-ascends, length-ordered}
 use Rattle.dl_core.proofs.EpochLemmas.{row_for_stands}
 use Rattle.dl_core.proofs.SetLemmas.{has_there}
+use Rattle.dl_core.proofs.MaintainLemmas.{migrated_keep, swept_keep, reclaimed_keep}
 use Rattle.dl_core.proofs.PinLemmas.{silent_keeps, pinned_keeps, unpinned_keeps}
 use Rattle.dl_core.proofs.CommitKeepLemmas.{committed_keeps, new_row}
 
@@ -155,10 +157,34 @@ module _ (numbering : Numbering) (l : Load) (history : List Entry) (root : Root)
   unpin_keeps stream (Some v) =
       unpinned_keeps l history (record { stream = stream; event = event.Unpin; reply = reply.Unpinned v }) refl root v refl s
 
+  migrate_keeps : (stream i n moved left : ℕ) (b : Bool)
+      → Keeps stream (event.Migrate i n) (cond b (migrated root i n, reply.Migrated moved left) (root, reply.Refused (NoShard i)))
+  migrate_keeps stream i n moved left true =
+      silent_keeps l history (record { stream = stream; event = event.Migrate i n; reply = reply.Migrated moved left }) refl (migrated root i n) (λ pin. refl)
+      (migrated_keep l history root i n s)
+  migrate_keeps stream i n moved left false =
+      silent_keeps l history (record { stream = stream; event = event.Migrate i n; reply = reply.Refused (NoShard i) }) refl root (λ pin. refl) s
+
+  sweep_keeps : (stream i n dropped left : ℕ) (b : Bool)
+      → Keeps stream (event.Sweep i n) (cond b (swept root i n, reply.Swept dropped left) (root, reply.Refused (NoShard i)))
+  sweep_keeps stream i n dropped left true =
+      silent_keeps l history (record { stream = stream; event = event.Sweep i n; reply = reply.Swept dropped left }) refl (swept root i n) (λ pin. refl)
+      (swept_keep l history root i n s)
+  sweep_keeps stream i n dropped left false =
+      silent_keeps l history (record { stream = stream; event = event.Sweep i n; reply = reply.Refused (NoShard i) }) refl root (λ pin. refl) s
+
   pub next_keeps : (stream : ℕ) (e : Event) → IsNumbering numbering → IsReady root → Keeps stream e (next numbering root stream e)
   next_keeps stream (event.Commit edits) numbers ready = commit_keeps stream edits numbers ready (commit_refused root edits) refl
   next_keeps stream event.Pin numbers ready = pin_keeps stream (pin_in root.pins stream) refl
   next_keeps stream event.Unpin numbers ready = unpin_keeps stream (pin_in root.pins stream)
+  next_keeps stream (event.Migrate i n) numbers ready =
+      migrate_keeps stream i n (min n (count (is_behind_in root i) root.rows)) (behind (migrated root i n)) (nat_lt i root.shards)
+  next_keeps stream (event.Sweep i n) numbers ready =
+      sweep_keeps stream i n (min n (count (is_over_in root i) root.rows)) (count (is_over_in root i) (swept root i n).rows) (nat_lt i root.shards)
+  next_keeps stream event.Reclaim numbers ready =
+      silent_keeps l history
+      (record { stream = stream; event = event.Reclaim; reply = reply.Reclaimed (map (λ e. e.id) (filter (is_dead_in root) root.older)) })
+      refl (reclaimed root) (λ pin. refl) (reclaimed_keep l history root s)
   next_keeps stream (event.Look n) numbers ready =
       silent_keeps l history (record { stream = stream; event = event.Look n; reply = looked root n }) refl root (λ pin. refl) s
 

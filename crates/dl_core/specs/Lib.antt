@@ -12,3 +12,4 @@ pub mod Decided
 pub mod Changes
 pub mod Committing
 pub mod Steps
+pub mod Maintaining

@@ -23,10 +23,14 @@ use Rattle.dl_core.specs.Names.{predicates}
 use Rattle.dl_core.specs.Edits.{edited_axioms, edited_facts, edited_signature}
 use Rattle.dl_core.specs.History.{Load}
 use Rattle.dl_row.specs.Rows.{Epoch, number_of, fact_of, visible, row_cmp, open_end}
-use Rattle.dl_core.specs.Root.{Root, HasEachOnce, IsNumbered, epochs, carries, pin_in, max_epochs, max_version}
+use Rattle.dl_core.specs.Root.{Root, HasEachOnce, IsNumbered, epochs, stands_in, rows_in, pin_in, max_epochs, max_version}
 use Rattle.dl_epoch.specs.Known.{max_weight}
 use Rattle.dl_hier.specs.Predicates.{max_predicates}
 use Rattle.dl_row.specs.Shards.{max_rows}
+use Rattle.dl_migrate.specs.Lists.{change_first, drop_first}
+use Rattle.dl_migrate.specs.Moving.{is_behind, renumbered}
+use Rattle.dl_migrate.specs.Sweeping.{is_over}
+use Rattle.dl_migrate.specs.Reclaiming.{is_dead}
 use Rattle.dl_row.specs.declared.row.Kind.{Kind}
 use Rattle.dl_row.specs.declared.row.Kind.TheVariants.{Class, Role}
 use Rattle.dl_row.specs.declared.row.Row.{Row}
@@ -41,7 +45,7 @@ use Rattle.dl_core.specs.declared.fault.LoadFault.TheVariants as fault
 use Rattle.dl_core.specs.declared.reply.Reply.{Reply}
 use Rattle.dl_core.specs.declared.reply.Reply.TheVariants as reply
 use Rattle.dl_core.specs.declared.reply.Refusal.{Refusal}
-use Rattle.dl_core.specs.declared.reply.Refusal.TheVariants.{TooManyAxioms, TooManyPredicates, TooManyEpochs, Full, PinOpen, NoPin}
+use Rattle.dl_core.specs.declared.reply.Refusal.TheVariants.{TooManyAxioms, TooManyPredicates, TooManyEpochs, Full, PinOpen, NoPin, NoShard}
 
 -- how names are numbered, under axioms: of a kind, those of a signature in number order
 abbrev pub Numbering : Type 0
@@ -239,11 +243,76 @@ unpinned root stream None = (root, reply.Refused NoPin)
 unpinned root stream (Some v) =
     (with_pins root (filter (λ p. not (p.stream == stream)) root.pins), reply.Unpinned v)
 
--- ---- look
+-- ---- migrate and sweep
+
+-- the root with other rows
+abbrev pub with_rows : Root → List Row → Root
+with_rows root rows = record {
+  version = root.version;
+  older = root.older;
+  current = root.current;
+  pins = root.pins;
+  shards = root.shards;
+  rows = rows;
+}
+
+-- a row of a shard that carries another epoch than the current one
+abbrev pub is_behind_in : Root → ℕ → Row → Bool
+is_behind_in root i r = stands_in root.shards i r && is_behind root.current.id r
+
+-- the first n of these move to the current epoch
+abbrev pub migrated : Root → ℕ → ℕ → Root
+migrated root i n =
+    with_rows root (ordered row_cmp
+    (change_first n (is_behind_in root i) (renumbered (epochs root) root.current) root.rows))
 
 -- how many rows carry another epoch than the current one
 abbrev pub behind : Root → ℕ
-behind root = count (λ r. not (carries root.current.id r)) root.rows
+behind root = count (is_behind root.current.id) root.rows
+
+-- the pinned versions
+abbrev pub pinned_versions : Root → List ℕ
+pinned_versions root = map (λ p. p.version) root.pins
+
+-- the least of a version and others
+abbrev pub least : ℕ → List ℕ → ℕ
+least v [] = v
+least v (w ∷ versions) = min w (least v versions)
+
+-- the horizon: the least of the current version and the pinned ones
+abbrev pub horizon : Root → ℕ
+horizon root = least root.version (pinned_versions root)
+
+-- a row of a shard that ends by the horizon
+abbrev pub is_over_in : Root → ℕ → Row → Bool
+is_over_in root i r = stands_in root.shards i r && is_over (horizon root) r
+
+-- the first n of these are dropped
+abbrev pub swept : Root → ℕ → ℕ → Root
+swept root i n = with_rows root (drop_first n (is_over_in root i) root.rows)
+
+-- the same root where there is no such shard, else another one
+abbrev pub in_shards : Root → ℕ → Root × Reply → Root × Reply
+in_shards root i next = cond (nat_lt i root.shards) next (root, reply.Refused (NoShard i))
+
+-- ---- reclaim
+
+-- an epoch that no row carries and that covers no pinned version
+abbrev pub is_dead_in : Root → Epoch → Bool
+is_dead_in root e = is_dead (epochs root) (pinned_versions root) (rows_in root e) e
+
+-- the root without these; the current epoch stays
+abbrev pub reclaimed : Root → Root
+reclaimed root = record {
+  version = root.version;
+  older = filter (λ e. not (is_dead_in root e)) root.older;
+  current = root.current;
+  pins = root.pins;
+  shards = root.shards;
+  rows = root.rows;
+}
+
+-- ---- look
 
 -- what a look shows
 abbrev pub looked : Root → ℕ → Reply
@@ -268,6 +337,15 @@ next numbering root stream (event.Commit edits) =
     refused_or root (commit_refused root edits) (after, reply.Committed after.version after.current.id)
 next numbering root stream event.Pin = pinned root stream (pin_in root.pins stream)
 next numbering root stream event.Unpin = unpinned root stream (pin_in root.pins stream)
+next numbering root stream (event.Migrate i n) =
+    let after = migrated root i n in
+    in_shards root i (after, reply.Migrated (min n (count (is_behind_in root i) root.rows)) (behind after))
+next numbering root stream (event.Sweep i n) =
+    let after = swept root i n in
+    let over = is_over_in root i in
+    in_shards root i (after, reply.Swept (min n (count over root.rows)) (count over after.rows))
+next numbering root stream event.Reclaim =
+    (reclaimed root, reply.Reclaimed (map (λ e. e.id) (filter (is_dead_in root) root.older)))
 next numbering root stream (event.Look n) = (root, looked root n)
 
 -- ---- the condition of a step

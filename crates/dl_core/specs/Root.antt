@@ -16,6 +16,7 @@ use Rattle.dl_normal.specs.Weight.{total_weight}
 use Rattle.dl_core.specs.History.{Load, Entry, version_of, axioms_at, facts_at, signature_at, pin_of}
 use Rattle.dl_row.specs.Rows.{Epoch, fact_of, rows_for, covering, row_cmp, open_end}
 use Rattle.dl_row.specs.Shards.{max_rows}
+use Rattle.dl_migrate.specs.Tallies.{carries}
 use Rattle.dl_epoch.specs.Known.{max_weight}
 use Rattle.dl_hier.specs.Predicates.{max_predicates}
 use Rattle.dl_row.specs.declared.row.Kind.{Kind}
@@ -57,10 +58,6 @@ abbrev pub AreInShards : ℕ → ℕ → List (List Row) → Type 0
 AreInShards n i [] = Unit {0}
 AreInShards n i (rows ∷ shards) = AllByRecursion (λ r. r.s % n ≡ i) rows × AreInShards n (suc i) shards
 
--- a row carries an epoch
-abbrev pub carries : ℕ → Row → Bool
-carries id r = r.epoch == id
-
 -- the book counts the rows, and those of each epoch
 abbrev pub rows_in : Root → Epoch → ℕ
 rows_in root e = count (carries e.id) root.rows
@@ -74,6 +71,12 @@ pin_in (p ∷ pins) stream = cond (p.stream == stream) (Some p.version) (pin_in 
 pub data IsLive (root : Root) (v : ℕ) : Type 0 where
   current : root.version ≡ v → IsLive root v
   pinned : (p : Pin) → Contains root.pins p → p.version ≡ v → IsLive root v
+
+-- an epoch is in use: it is the current one, a row carries it, or it covers a pinned version
+pub data IsInUse (root : Root) (e : Epoch) : Type 0 where
+  is_current : root.current.id ≡ e.id → IsInUse root e
+  by_row : (r : Row) → Contains root.rows r → r.epoch ≡ e.id → IsInUse root e
+  by_pin : (p : Pin) → Contains root.pins p → covering (epochs root) p.version ≡ Some e → IsInUse root e
 
 -- ---- a root stands for a history
 

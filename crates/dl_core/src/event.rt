@@ -25,6 +25,12 @@ pub enum Event {
     Pin,
     /// The stream's pin is taken off.
     Unpin,
+    /// So many rows of a shard are to get the numbers of the current epoch.
+    Migrate { shard: u32, n: u64 },
+    /// So many rows of a shard are to be dropped that no live version sees.
+    Sweep { shard: u32, n: u64 },
+    /// The epochs that nothing needs any more are to be dropped.
+    Reclaim,
     /// Counts, the names by number, and so many of the first visible rows.
     Look { rows: u64 },
 }

@@ -8,7 +8,9 @@ ghost use Rattle.dl_core.specs.Steps.{longer, IsStep};
 
 use crate::commit::commit;
 use crate::look::look;
+use crate::maintain::{migrated, swept};
 use crate::pins::{pinned, unpinned};
+use crate::reclaim::reclaimed;
 use crate::{Event, Reply, Root};
 use dl_terms::NoMemory;
 use std::alloc::Global;
@@ -55,6 +57,9 @@ fn stepped(
         Event::Commit(edits) => commit(alloc, root, edits.as_slice()),
         Event::Pin => pinned(alloc, root, stream),
         Event::Unpin => unpinned(alloc, root, stream),
+        Event::Migrate { shard, n } => migrated(alloc, root, *shard, *n),
+        Event::Sweep { shard, n } => swept(alloc, root, *shard, *n),
+        Event::Reclaim => reclaimed(alloc, root),
         Event::Look { rows } => look(alloc, root, *rows),
     }
 }

@@ -8,6 +8,12 @@ pub enum Reply {
     Committed { version: u32, epoch: u32 },
     Pinned { version: u32 },
     Unpinned { version: u32 },
+    /// How many rows moved, and how many of all shards carry another epoch than the current one.
+    Migrated { moved: u64, left: u64 },
+    /// How many rows were dropped, and how many of that shard may still be.
+    Swept { dropped: u64, left: u64 },
+    /// The ids of the epochs that were dropped, ascending.
+    Reclaimed { ids: List<u32> },
     Looked(Looked),
     /// Nothing changed.
     Refused(Refusal),
@@ -28,6 +34,8 @@ pub enum Refusal {
     PinOpen { version: u32 },
     /// The stream has no pin.
     NoPin,
+    /// There is no shard with this number.
+    NoShard { shard: u32 },
 }
 
 /// What a look shows of the current version.

@@ -1,10 +1,10 @@
-mod ListLemmas
+pub mod ListLemmas
 mod PlaceLemmas
 mod PickLemmas
 mod PickedLemmas
 mod TallyLemmas
-mod SweepLemmas
+pub mod SweepLemmas
 mod CoverLemmas
 mod NameLemmas
-mod MoveLemmas
+pub mod MoveLemmas
 mod MovedLemmas

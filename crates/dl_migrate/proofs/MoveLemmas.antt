@@ -56,7 +56,7 @@ epoch_is es e r f stands = ap (λ o. (numbered_in e r o).epoch) stands ∙ by f
     by (Link p x y) = refl
 
 -- the fact of a row is its kind's, of its ends
-row_form : (es : List Epoch) (r : Row) (f : Fact) → fact_of es r ≡ Some f → (name : ℕ) × (fact_by r.kind r.s r.o name ≡ f)
+pub row_form : (es : List Epoch) (r : Row) (f : Fact) → fact_of es r ≡ Some f → (name : ℕ) × (fact_by r.kind r.s r.o name ≡ f)
 row_form es r f s = by (epoch_of es r.epoch) s
   where
     named : (o : Option ℕ) → fact_named r o ≡ Some f → (name : ℕ) × (fact_by r.kind r.s r.o name ≡ f)

@@ -1,5 +1,6 @@
 use Rattle.std.proofs.Common.{ap, arith}
-use Rattle.dl_core.specs.Root.{carries, rows_in}
+use Rattle.dl_core.specs.Root.{rows_in}
+use Rattle.dl_migrate.specs.Tallies.{carries}
 use Rattle.dl_core.proofs.EntryLemmas.{buildable, count_le}
 use Rattle.dl_epoch.specs.Covering.{kept}
 use Rattle.dl_core.proofs.committed.current_after.Goals as goal

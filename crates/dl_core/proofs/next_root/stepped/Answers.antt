@@ -20,6 +20,21 @@ returns-in-Unpin c = λ numbering rule.
     ok_is c.unpinned.result (c.unpinned.ensures numbering)
     (sym (ap (next numbering c.args.root.now c.args.stream) c.in-Unpin.is))
 
+pub returns-in-Migrate : goal.returns-in-Migrate
+returns-in-Migrate c = λ numbering rule.
+    ok_is c.migrated.result (c.migrated.ensures numbering c.args.stream)
+    (sym (ap (next numbering c.args.root.now c.args.stream) c.in-Migrate.is))
+
+pub returns-in-Sweep : goal.returns-in-Sweep
+returns-in-Sweep c = λ numbering rule.
+    ok_is c.swept.result (c.swept.ensures numbering c.args.stream)
+    (sym (ap (next numbering c.args.root.now c.args.stream) c.in-Sweep.is))
+
+pub returns-in-Reclaim : goal.returns-in-Reclaim
+returns-in-Reclaim c = λ numbering rule.
+    ok_is c.reclaimed.result (c.reclaimed.ensures numbering c.args.stream)
+    (sym (ap (next numbering c.args.root.now c.args.stream) c.in-Reclaim.is))
+
 pub returns-in-Look : goal.returns-in-Look
 returns-in-Look c = λ numbering rule.
     ok_is c.look.result (c.look.ensures numbering c.args.stream)
