@@ -44,3 +44,5 @@ pub mod GrowthLemmas
 pub mod FactSignatureLemmas
 pub mod PinnedShardLemmas
 pub mod PinnedEpochLemmas
+pub mod InUseLemmas
+pub mod ScratchLemmas

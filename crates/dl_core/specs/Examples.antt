@@ -14,7 +14,7 @@ use Rattle.dl_core.specs.Next.{Numbering, next, epoch_from}
 use Rattle.dl_core.specs.declared.event.Item.TheVariants as item
 use Rattle.dl_core.specs.declared.event.Edit.{Edit}
 use Rattle.dl_core.specs.declared.event.Event.{Event}
-use Rattle.dl_core.specs.declared.event.Event.TheVariants.{Commit, Pin, Unpin, Look}
+use Rattle.dl_core.specs.declared.event.Event.TheVariants.{Commit, Pin, Unpin, Migrate, Sweep, Reclaim, Look}
 use Rattle.dl_core.specs.declared.reply.Reply.{Reply}
 
 -- numbers in name order
@@ -79,6 +79,24 @@ abbrev pub remove_and_add : List Event
 remove_and_add =
     Commit (remove_a ∷ add_a ∷ []) ∷ Look 10
     ∷ Commit (remove_a ∷ []) ∷ Commit (add_a ∷ []) ∷ Look 10 ∷ []
+
+-- SubClassOf(B C), with a later name for C
+abbrev pub b_below_c : Axiom
+b_below_c = SubClass (basic.Class class_b) (part.Class 3 ∷ [])
+
+-- an epoch that a pin keeps, and that is reclaimed without it
+abbrev pub migrate_and_reclaim : List Event
+migrate_and_reclaim =
+    Pin ∷ Commit (record { add = true; item = item.Axiom b_below_c } ∷ []) ∷ Migrate 0 10
+    ∷ Reclaim ∷ Unpin ∷ Reclaim ∷ Reclaim ∷ []
+
+-- a row that a pin keeps, and that is swept without it
+abbrev pub pin_and_sweep : List Event
+pin_and_sweep = Pin ∷ Commit (remove_a ∷ []) ∷ Sweep 0 10 ∷ Unpin ∷ Sweep 0 10 ∷ []
+
+-- shards that aren't there
+abbrev pub no_such_shard : List Event
+no_such_shard = Migrate 2 5 ∷ Sweep 9 1 ∷ []
 
 -- events that are refused, and one that isn't
 abbrev pub refused_events : List Event

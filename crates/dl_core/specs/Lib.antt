@@ -13,3 +13,4 @@ pub mod Changes
 pub mod Committing
 pub mod Steps
 pub mod Maintaining
+pub mod Scratch

@@ -23,6 +23,7 @@ mod limits;
 mod loaded_shards;
 mod look;
 mod maintain;
+pub mod maintenance_laws;
 mod new_rows;
 mod next_root;
 mod ontology;

@@ -1,0 +1,8 @@
+use Rattle.dl_core.proofs.InUseLemmas.{remaining_in_use, in_use_remains}
+use Rattle.dl_core.proofs.maintenance_laws.epochs_in_use_remain.Goals as goal
+
+pub returns-clause-each : goal.returns-clause-each
+returns-clause-each c = remaining_in_use
+
+pub returns-clause-all : goal.returns-clause-all
+returns-clause-all c = in_use_remains
