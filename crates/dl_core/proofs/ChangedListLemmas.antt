@@ -5,7 +5,7 @@ use Rattle.std.specs.List.{AllByRecursion}
 use Rattle.std.proofs.lemmas.List.Elements.{All-head, All-tail, All-cons}
 use Rattle.dl_terms.proofs.MemberLemmas.{Contains-first, Contains-later}
 use Rattle.dl_row.specs.Lists.{count, InOrder, last_where, first_some}
-use Rattle.dl_migrate.specs.Lists.{change_first, drop_first, first_that}
+use Rattle.dl_migrate.specs.Lists.{change_first, drop_first}
 use Rattle.dl_migrate.proofs.ListLemmas.{count_parts, length_parts}
 use Rattle.dl_core.proofs.EpochLemmas.{some_none, some_some}
 use Rattle.dl_core.proofs.OrderedLemmas.{each-filter, each-push, each-last}

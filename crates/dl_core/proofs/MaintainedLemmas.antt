@@ -1,5 +1,5 @@
 -- The book and the shards of a root after maintenance.
-use Rattle.std.proofs.Common.{◌≡◌, ◌≢◌, ℕ, zero, suc, ◌+◌, ◌-◌, ◌<◌, ◌≤◌, ◌⊎◌, inl, inr, min, Bool, true, false, not, ◌||◌, cond, ◌==◌, List, [], ◌∷◌, ◌++◌, map, filter, take, drop, length, get_or, refl, sym, ap, ap₂, subst, ◌∙◌, true≢false, arith}
+use Rattle.std.proofs.Common.{◌≡◌, ℕ, zero, suc, ◌+◌, ◌-◌, ◌<◌, ◌≤◌, ◌⊎◌, inl, inr, min, Bool, true, false, not, ◌||◌, cond, ◌==◌, List, [], ◌∷◌, ◌++◌, map, filter, take, length, get_or, refl, sym, ap, ap₂, subst, ◌∙◌, arith}
 use Rattle.std.specs.List.{All, AllByRecursion, AllPairs, Any, list_any}
 use Rattle.std.proofs.lemmas.Bool.{cases_eq, eq-eqb, ne_eqb}
 use Rattle.std.proofs.lemmas.List.{length-map, length_push, map-append, take_more, get_or-map, take-map, take-append-le, take_all, get_or_append_left}
@@ -8,9 +8,8 @@ use Rattle.dl_terms.specs.declared.axiom.Fact.{Fact}
 use Rattle.dl_terms.specs.declared.axiom.Fact.TheVariants.{Is, Link}
 use Rattle.dl_terms.specs.declared.axiom.Signature.{Signature}
 use Rattle.dl_terms.proofs.OrderLemmas.{numbers_linear}
-use Rattle.dl_row.specs.Lists.{count, InOrder}
+use Rattle.dl_row.specs.Lists.{InOrder}
 use Rattle.dl_row.specs.Rows.{Epoch}
-use Rattle.dl_row.specs.Shards.{max_rows}
 use Rattle.dl_row.specs.declared.row.Row.{Row}
 use Rattle.dl_row.proofs.OrderedLemmas.{InOrder_at}
 use Rattle.dl_epoch.specs.Frozen.{Frozen, IsFrozen, from_version}
@@ -18,8 +17,8 @@ use Rattle.dl_epoch.specs.Covering.{Kept, kept, epoch_in, AreEntries}
 use Rattle.dl_epoch.specs.declared.entry.Entry.{Entry}
 use Rattle.dl_migrate.specs.Moving.{IsKnownTo, CanMove}
 use Rattle.dl_migrate.specs.Reclaiming.{is_dead, is_dead_entry, dead_ids, older}
-use Rattle.dl_migrate.specs.Tallies.{carries, listed}
-use Rattle.dl_core.specs.Root.{Root, AreEpochs, IsRowAt, knows, epochs, shard, stands_in, rows_in}
+use Rattle.dl_migrate.specs.Tallies.{carries}
+use Rattle.dl_core.specs.Root.{Root, AreEpochs, IsRowAt, knows, epochs, shard, stands_in}
 use Rattle.dl_core.specs.Next.{with_rows, least, pinned_versions, is_dead_in, reclaimed}
 use Rattle.dl_core.specs.Held.{IsBookOf, IsHeld, IsSound, AreShardsOf, CountsRows}
 use Rattle.dl_core.specs.Maintaining.{recounted, HasThose, IsRefill, AreShardsWith}

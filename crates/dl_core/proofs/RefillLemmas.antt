@@ -1,5 +1,5 @@
 -- Rows of one shard that move or are dropped: what becomes of the shards, and what carries each epoch then.
-use Rattle.std.proofs.Common.{◌≡◌, ◌≢◌, ℕ, zero, suc, ◌+◌, ◌-◌, ◌%◌, ◌≤◌, ◌<◌, Bool, true, false, not, ◌&&◌, cond, ◌==◌, min, List, [], ◌∷◌, map, filter, take, length, Option, Some, None, refl, sym, ap, ap₂, subst, ◌∙◌, true≢false, arith}
+use Rattle.std.proofs.Common.{◌≡◌, ◌≢◌, ℕ, zero, suc, ◌+◌, ◌-◌, ◌%◌, ◌≤◌, ◌<◌, Bool, true, false, ◌&&◌, cond, ◌==◌, min, List, [], ◌∷◌, map, filter, take, length, Option, Some, None, refl, sym, ap, ap₂, subst, ◌∙◌, true≢false, arith}
 use Rattle.std.specs.List.{All}
 use Rattle.std.proofs.lemmas.Bool.{eqb-true, eq-eqb, not-true, lt-ltb, le-ltb}
 use Rattle.std.proofs.lemmas.List.{length-map}
@@ -8,7 +8,6 @@ use Rattle.dl_terms.specs.declared.axiom.Fact.{Fact}
 use Rattle.dl_terms.specs.declared.axiom.Fact.TheVariants.{Is, Link}
 use Rattle.dl_row.specs.Lists.{count, ordered}
 use Rattle.dl_row.specs.Rows.{Epoch, fact_of, row_cmp}
-use Rattle.dl_row.specs.Shards.{max_rows}
 use Rattle.dl_row.specs.declared.row.Row.{Row}
 use Rattle.dl_row.proofs.CountLemmas.{count-ordered}
 use Rattle.dl_row.proofs.OrderedLemmas.{ordered-same, length-ordered}

@@ -10,7 +10,7 @@ use Rattle.dl_terms.specs.Order.{fact_cmp}
 use Rattle.dl_terms.specs.declared.axiom.Fact.{Fact}
 use Rattle.dl_terms.specs.declared.axiom.Fact.TheVariants.{Is, Link}
 use Rattle.dl_terms.proofs.OrderLemmas.{IsLinear, facts_linear, numbers_linear, lists_linear}
-use Rattle.dl_row.specs.Lists.{count, ordered}
+use Rattle.dl_row.specs.Lists.{count}
 use Rattle.dl_row.specs.Rows.{Epoch, names_of, name_at, number_of, epoch_of, fact_by, fact_named, fact_in, fact_of, visible, row_cmp, kind_number, open_end}
 use Rattle.dl_row.specs.declared.row.Kind.{Kind}
 use Rattle.dl_row.specs.declared.row.Kind.TheVariants.{Class, Role}

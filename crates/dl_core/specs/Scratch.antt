@@ -4,8 +4,7 @@ use Rattle.std.specs.List.{filter}
 use Rattle.std.specs.Ordering.{nat_cmp}
 use Rattle.std.specs.Cmp.Lexicographic.{slice_cmp}
 use Rattle.dl_row.specs.Lists.{ordered}
-use Rattle.dl_row.specs.Rows.{names_of, visible, kind_number}
-use Rattle.dl_row.specs.declared.row.Kind.{Kind}
+use Rattle.dl_row.specs.Rows.{visible, kind_number}
 use Rattle.dl_row.specs.declared.row.Row.{Row}
 use Rattle.dl_core.specs.History.{Load, Entry, version_of, axioms_at, facts_at, signature_at}
 use Rattle.dl_core.specs.Root.{Root}

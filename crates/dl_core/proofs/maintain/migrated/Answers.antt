@@ -1,12 +1,10 @@
 use Rattle.std.proofs.Common.{◌≡◌, ◌+◌, ◌≤◌, ◌<◌, ◌-◌, ◌∙◌, map, refl, sym, ap, subst, arith}
 use Rattle.std.specs.List.{All}
-use Rattle.dl_row.specs.Rows.{Epoch}
 use Rattle.dl_epoch.specs.Covering.{kept, epoch_in}
 use Rattle.dl_epoch.specs.Frozen.{from_version}
 use Rattle.dl_migrate.specs.Moving.{CanMove}
 use Rattle.dl_core.specs.Root.{rows_in}
-use Rattle.dl_core.specs.Next.{behind, migrated, next}
-use Rattle.dl_core.specs.declared.event.Event.TheVariants as event
+use Rattle.dl_core.specs.Next.{behind, migrated}
 use Rattle.dl_core.proofs.MaintainedLemmas.{current_among, all_move}
 use Rattle.dl_core.proofs.RefillLemmas.{moved_refill, moved_left, migrated_is, no_shard}
 use Rattle.dl_core.proofs.maintain.migrated.Goals as goal

@@ -1,4 +1,4 @@
-use Rattle.std.proofs.Common.{◌≡◌, ◌∙◌, ◌==◌, ◌∷◌, ◌++◌, [], true, false, not, filter, map, refl, sym, ap, append-nil}
+use Rattle.std.proofs.Common.{◌∙◌, ◌==◌, ◌∷◌, ◌++◌, [], true, false, not, map, sym, ap, append-nil}
 use Rattle.std.proofs.lemmas.List.{map-append}
 use Rattle.std.specs.List.{list_any}
 use Rattle.dl_epoch.specs.Frozen.{Frozen}

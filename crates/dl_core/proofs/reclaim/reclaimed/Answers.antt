@@ -1,10 +1,9 @@
-use Rattle.std.proofs.Common.{◌≡◌, ◌∙◌, ◌==◌, not, filter, map, refl, ap, ap₂}
+use Rattle.std.proofs.Common.{◌∙◌, ◌==◌, not, filter, map, refl, ap, ap₂}
 use Rattle.std.specs.Arc.{arc_value}
 use Rattle.std.specs.List.{list_any}
 use Rattle.dl_epoch.specs.Covering.{Kept, kept}
-use Rattle.dl_migrate.specs.Reclaiming.{dead_ids}
 use Rattle.dl_core.specs.Root.{Root}
-use Rattle.dl_core.specs.Next.{pinned_versions, reclaimed}
+use Rattle.dl_core.specs.Next.{reclaimed}
 use Rattle.dl_core.specs.declared.book.Pin.{Pin}
 use Rattle.dl_core.specs.declared.reply.Reply.{Reply}
 use Rattle.dl_core.specs.declared.reply.Reply.TheVariants as reply

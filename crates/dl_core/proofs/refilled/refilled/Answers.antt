@@ -1,4 +1,4 @@
-use Rattle.std.proofs.Common.{◌≡◌, ◌-◌, ◌∙◌, List, map, refl, sym, ap, subst}
+use Rattle.std.proofs.Common.{◌-◌, ◌∙◌, List, map, refl, sym, ap, subst}
 use Rattle.std.specs.Arc.{arc_value}
 use Rattle.std.specs.List.{All}
 use Rattle.dl_row.specs.Rows.{Epoch}
