@@ -103,7 +103,7 @@ module _ (root : Root) (i n : ℕ) where
       filter-ordered rows_linear (stands_in root.shards i) (change_first n (is_behind_in root i) (renumbered (epochs root) root.current) root.rows)
       ∙ ap (ordered row_cmp) (filter-change_first (stands_in root.shards i) (is_behind root.current.id) (renumbered (epochs root) root.current) (stays i) n root.rows)
 
-  migrated_others : IsSound root → (j : ℕ) → j ≢ i → shard (migrated root i n) j ≡ shard root j
+  pub migrated_others : IsSound root → (j : ℕ) → j ≢ i → shard (migrated root i n) j ≡ shard root j
   migrated_others sound j other =
       filter-ordered rows_linear (stands_in root.shards j) (change_first n (is_behind_in root i) (renumbered (epochs root) root.current) root.rows)
       ∙ ap (ordered row_cmp) (filter-change_other (stands_in root.shards j) (is_behind_in root i) (renumbered (epochs root) root.current)
@@ -115,7 +115,7 @@ module _ (root : Root) (i n : ℕ) where
   pub shard-swept : shard (swept root i n) i ≡ drop_first n (is_over (horizon root)) (shard root i)
   shard-swept = filter-drop_within (stands_in root.shards i) (is_over (horizon root)) n root.rows
 
-  swept_others : (j : ℕ) → j ≢ i → shard (swept root i n) j ≡ shard root j
+  pub swept_others : (j : ℕ) → j ≢ i → shard (swept root i n) j ≡ shard root j
   swept_others j other = filter-drop_other (stands_in root.shards j) (is_over_in root i) (one_shard root i j (is_over (horizon root)) other) n root.rows
 
 -- ---- what goes, by epoch

@@ -11,7 +11,8 @@ use dl_terms::NoMemory;
 use std::alloc::Global;
 
 /// The root after the first `n` rows of a shard that carry another epoch moved to the current one, or all of these if
-/// there are fewer; and the reply. Where there is no such shard, the root is the same. It fails only for want of memory.
+/// there are fewer; and the reply. Where there is no such shard, the root is the same. It fails only for want of
+/// memory.
 pub(crate) fn migrated(
     alloc: Global,
     root: &Root,

@@ -1,5 +1,5 @@
 //! Laws of migrating, sweeping and reclaiming.
-ghost use Rattle.std.specs.Prelude.{◌≡◌, ℕ, ◌++◌, List};
+ghost use Rattle.std.specs.Prelude.{◌≡◌, ◌≢◌, ℕ, ◌++◌, List};
 ghost use Rattle.std.specs.List.{Contains};
 ghost use Rattle.dl_row.specs.Rows.{Epoch};
 ghost use Rattle.dl_migrate.specs.Lists.{drop_first};
@@ -42,7 +42,8 @@ pub fn migrated_rows_are_those_of_scratch()
         → NoneOpens numbering root more → behind (root_from numbering root more) ≡ 0 }
 {}
 
-/// Once a migration has left no row behind, and while no epoch opens, the visible rows are those of a load from scratch.
+/// Once a migration has left no row behind, and while no epoch opens, the visible rows are those of a load from
+/// scratch.
 pub fn rows_stay_those_of_scratch()
     ensures { (numbering : Numbering) (l : Load) (history more : List Entry) (stream i n moved : ℕ)
         → IsNumbering numbering → IsLoad l
@@ -57,6 +58,9 @@ pub fn rows_stay_those_of_scratch()
 pub fn maintenance_works_by_shards()
     ensures migrated { (root : Root) (i n : ℕ)
         → shard (migrated root i n) i ≡ migrated_rows n (epochs root) root.current (shard root i) }
+    ensures migrated_others { (l : Load) (history : List Entry) (root : Root) → StandsFor l history root
+        → (i n j : ℕ) → j ≢ i → shard (migrated root i n) j ≡ shard root j }
     ensures swept { (root : Root) (i n : ℕ)
         → shard (swept root i n) i ≡ drop_first n (is_over (horizon root)) (shard root i) }
+    ensures swept_others { (root : Root) (i n j : ℕ) → j ≢ i → shard (swept root i n) j ≡ shard root j }
 {}
