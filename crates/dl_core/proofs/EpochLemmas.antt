@@ -16,24 +16,12 @@ use Rattle.dl_core.specs.Next.{row_for}
 use Rattle.dl_row.specs.declared.row.Kind.{Kind}
 use Rattle.dl_row.specs.declared.row.Kind.TheVariants.{Class, Role}
 use Rattle.dl_row.specs.declared.row.Row.{Row}
+use Rattle.dl_migrate.proofs.NameLemmas.{number_from-suc}
+pub use Rattle.dl_migrate.proofs.NameLemmas.{some_none, some_some}
 use Rattle.dl_core.proofs.CountLemmas.{has_count}
 use Rattle.dl_row.proofs.CountLemmas.{same_is, same_itself}
 
 -- ---- the first item, and the last, that passes a test
-
-pub some_none : {A : Type 0} {x : A} → None ≡ Some x → ⊥
-some_none {A} e = subst by e tt
-  where
-    by : Option A → Type 0
-    by None = Unit {0}
-    by (Some y) = ⊥
-
-pub some_some : {A : Type 0} {x y : A} → Some x ≡ Some y → x ≡ y
-some_some {A} {x} {y} e = ap by e
-  where
-    by : Option A → A
-    by None = x
-    by (Some z) = z
 
 module _ {A : Type 0} (p : A → Bool) where
   pub find-append_found : (xs ys : List A) (x : A) → find p xs ≡ Some x → find p (xs ++ ys) ≡ Some x
@@ -93,15 +81,6 @@ last_is_found (d ∷ es) e order =
     last (x ∷ xs) all = last xs all.1
 
 -- ---- numbers
-
-pub number_from-suc : (n : ℕ) (names : List ℕ) (x : ℕ) → number_from (suc n) names x ≡ suc (number_from n names x)
-number_from-suc n [] x = refl
-number_from-suc n (y ∷ names) x = by (y == x) (number_from-suc (suc n) names x)
-  where
-    by : (b : Bool) → number_from (suc (suc n)) names x ≡ suc (number_from (suc n) names x)
-        → cond b (suc n) (number_from (suc (suc n)) names x) ≡ suc (cond b n (number_from (suc n) names x))
-    by true ih = refl
-    by false ih = ih
 
 number_found : (names : List ℕ) (x : ℕ) → has nat_cmp names x ≡ true → slice_get names (number_from 0 names x) ≡ Some x
 number_found [] x h = absurd (true≢false (sym h))

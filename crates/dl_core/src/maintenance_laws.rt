@@ -40,16 +40,12 @@ pub fn migrated_rows_are_those_of_scratch()
         → bare_rows (root_of numbering l history) ≡ scratch numbering l history }
     ensures stays { (numbering : Numbering) (root : Root) → behind root ≡ 0 → (more : List Entry)
         → NoneOpens numbering root more → behind (root_from numbering root more) ≡ 0 }
-{}
-
-/// Once a migration has left no row behind, and while no epoch opens, the visible rows are those of a load from
-/// scratch.
-pub fn rows_stay_those_of_scratch()
-    ensures { (numbering : Numbering) (l : Load) (history more : List Entry) (stream i n moved : ℕ)
+    // So it is once a migration has left no row behind, while no epoch opens.
+    ensures left { (numbering : Numbering) (l : Load) (history more : List Entry) (stream i n moved : ℕ)
         → IsNumbering numbering → IsLoad l
         → IsLegal numbering l (longer history stream (event.Migrate i n) (reply.Migrated moved 0) ++ more)
-        → NoneOpens numbering (root_of numbering l
-        (longer history stream (event.Migrate i n) (reply.Migrated moved 0))) more
+        → NoneOpens numbering
+        (root_of numbering l (longer history stream (event.Migrate i n) (reply.Migrated moved 0))) more
         → bare_rows (root_of numbering l (longer history stream (event.Migrate i n) (reply.Migrated moved 0) ++ more))
         ≡ scratch numbering l (longer history stream (event.Migrate i n) (reply.Migrated moved 0) ++ more) }
 {}

@@ -5,6 +5,6 @@ mod PickedLemmas
 mod TallyLemmas
 pub mod SweepLemmas
 mod CoverLemmas
-mod NameLemmas
+pub mod NameLemmas
 pub mod MoveLemmas
 mod MovedLemmas

@@ -58,7 +58,7 @@ increasing-once names up = record { place = λ i j x e f. by i j x (get_read nam
 
 -- ---- numbers
 
-number_from-suc : (n : ℕ) (names : List ℕ) (x : ℕ) → number_from (suc n) names x ≡ suc (number_from n names x)
+pub number_from-suc : (n : ℕ) (names : List ℕ) (x : ℕ) → number_from (suc n) names x ≡ suc (number_from n names x)
 number_from-suc n [] x = refl
 number_from-suc n (y ∷ names) x = by (y == x) (number_from-suc (suc n) names x)
   where
