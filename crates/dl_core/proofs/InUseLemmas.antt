@@ -1,8 +1,9 @@
--- After a reclaim exactly the epochs in use remain.
-use Rattle.std.proofs.Common.{◌≡◌, ℕ, ◌≤◌, ◌<◌, ◌⊎◌, Bool, true, false, not, ◌&&◌, ◌||◌, cond, ◌==◌, nat_le, List, [], ◌∷◌, map, filter, Contains, Option, Some, None, refl, sym, ap, subst, ◌∙◌, inl, inr, true≢false, arith}
+-- After a reclaim exactly the epochs in use remain, and the ids of the others are answered.
+use Rattle.std.proofs.Common.{◌≡◌, ℕ, ◌≤◌, ◌<◌, ◌⊎◌, Bool, true, false, not, ◌&&◌, ◌||◌, cond, ◌==◌, nat_le, List, [], ◌∷◌, ◌++◌, map, filter, Contains, Option, Some, None, refl, sym, ap, subst, ◌∙◌, inl, inr, true≢false, arith}
 use Rattle.std.proofs.lemmas.Bool.Decides.{nat_tests}
-use Rattle.std.proofs.lemmas.List.Elements.{Contains-push, Contains-append_cases, Contains-append_left, All-from_recursion}
+use Rattle.std.proofs.lemmas.List.Elements.{Contains-push, Contains-append_cases, Contains-append_left, All-from_recursion, filter_passes}
 use Rattle.dl_terms.proofs.MemberLemmas.{Contains-first, Contains-later, Contains-cons, Contains-nil, Contains-one, All-Contains}
+use Rattle.dl_hier.proofs.MemberLemmas.{Contains-map, Contains-map_of}
 use Rattle.dl_row.specs.Lists.{InOrder}
 use Rattle.dl_row.specs.Rows.{Epoch, covering}
 use Rattle.dl_row.proofs.CountLemmas.{count_there}
@@ -15,6 +16,7 @@ use Rattle.dl_core.specs.declared.book.Pin.{Pin}
 use Rattle.dl_core.proofs.ChangedListLemmas.{last_where_is}
 use Rattle.dl_core.proofs.CommitLemmas.{is_equal}
 use Rattle.dl_core.proofs.MaintainLemmas.{covers_still, kept_by_pin, kept_by_row}
+use Rattle.dl_core.proofs.OrderedLemmas.{each-last}
 use Rattle.dl_core.proofs.PinLemmas.{Contains-filter}
 
 Contains-kept : (q : Epoch → Bool) (xs : List Epoch) (x : Epoch) → Contains xs x → q x ≡ true → Contains (filter q xs) x
@@ -120,3 +122,55 @@ in_use_remains l history root s e c used = by (Contains-append_cases root.older 
         (Contains-push (filter keep root.older) root.current)
     by (inl c') (IsInUse.by_row r there' h) = there c' (kept_by_row root e r there' (itself r.epoch e.id h))
     by (inl c') (IsInUse.by_pin p there' h) = there c' (kept_by_pin root e p there' h)
+
+-- ---- what a reclaim answers
+
+older_less : (older : List Epoch) (current : Epoch) → InOrder (λ d e. d.id < e.id) (older ++ current ∷ []) → (e : Epoch) → Contains older e → e.id < current.id
+older_less [] current order e c = absurd (Contains-nil e c)
+older_less (x ∷ older) current order e c = by (Contains-cons x e older c) (older_less older current order.1 e)
+  where
+    by : (x ≡ e) ⊎ Contains older e → (Contains older e → e.id < current.id) → e.id < current.id
+    by (inl same) ih =
+        let lt = each-last (λ y. x.id < y.id) older current order.0 in
+        let h = ap (λ (z : Epoch). z.id) same in
+        omega (arith, lt, h)
+    by (inr later) ih = ih later
+
+module _ (l : Load) (history : List Entry) (root : Root) (s : StandsFor l history root) (e : Epoch) (c : Contains (epochs root) e) where
+  pub answered_unused : Contains (map (λ (d : Epoch). d.id) (filter (is_dead_in root) root.older)) e.id → IsInUse root e → ⊥
+  answered_unused m used =
+      let d = Contains-map (λ (d : Epoch). d.id) (filter (is_dead_in root) root.older) e.id m in
+      by d.0 (Contains-filter (is_dead_in root) root.older d.0 d.1)
+      (All-Contains (λ x. is_dead_in root x ≡ true) (filter (is_dead_in root) root.older) d.0 (filter_passes (is_dead_in root) root.older) d.1) d.2 used
+    where
+      itself : (a b : ℕ) → a ≡ b → (b == a) ≡ true
+      itself a b h = grind (arith, nat_tests)
+
+      dead : (d : Epoch) → Contains root.older d → is_dead_in root d ≡ true → d.id ≡ e.id → is_dead_in root e ≡ true
+      dead d there is same =
+          ap (is_dead_in root) (sym (same_id (epochs root) d e s.epochs_are.ids (Contains-append_left root.older (root.current ∷ []) d there) c same)) ∙ is
+
+      by : (d : Epoch) → Contains root.older d → is_dead_in root d ≡ true → d.id ≡ e.id → IsInUse root e → ⊥
+      by d there is same (IsInUse.is_current h) = let lt = older_less root.older root.current s.epochs_are.ids d there in omega (arith, lt, same, h)
+      by d there is same (IsInUse.by_row r there' h) =
+          true≢false (sym (kept_by_row root e r there' (itself r.epoch e.id h)) ∙ ap not (dead d there is same))
+      by d there is same (IsInUse.by_pin p there' h) = true≢false (sym (kept_by_pin root e p there' h) ∙ ap not (dead d there is same))
+
+  pub unused_answered : (IsInUse root e → ⊥) → Contains (map (λ (d : Epoch). d.id) (filter (is_dead_in root) root.older)) e.id
+  unused_answered unused = by (Contains-append_cases root.older (root.current ∷ []) e c)
+    where
+      back : IsInUse (reclaimed root) e → IsInUse root e
+      back (IsInUse.is_current h) = IsInUse.is_current h
+      back (IsInUse.by_row r there h) = IsInUse.by_row r there h
+      back (IsInUse.by_pin p there h) = IsInUse.by_pin p there (sym (covers_still root l history s p.version (IsLive.pinned p there refl)) ∙ h)
+
+      either : Contains root.older e → (b : Bool) → is_dead_in root e ≡ b → Contains (map (λ (d : Epoch). d.id) (filter (is_dead_in root) root.older)) e.id
+      either there true h = Contains-map_of (λ (d : Epoch). d.id) (filter (is_dead_in root) root.older) e (Contains-kept (is_dead_in root) root.older e there h)
+      either there false h =
+          absurd (unused (back (remaining_in_use l history root s e
+          (Contains-append_left (filter (λ d. not (is_dead_in root d)) root.older) (root.current ∷ []) e
+          (Contains-kept (λ d. not (is_dead_in root d)) root.older e there (ap not h))))))
+
+      by : Contains root.older e ⊎ Contains (root.current ∷ []) e → Contains (map (λ (d : Epoch). d.id) (filter (is_dead_in root) root.older)) e.id
+      by (inl there) = either there (is_dead_in root e) refl
+      by (inr here) = absurd (unused (IsInUse.is_current (ap (λ (z : Epoch). z.id) (Contains-one root.current e here))))

@@ -1,5 +1,5 @@
 //! Laws of migrating, sweeping and reclaiming.
-ghost use Rattle.std.specs.Prelude.{◌≡◌, ◌≢◌, ℕ, ◌++◌, List};
+ghost use Rattle.std.specs.Prelude.{◌≡◌, ◌≢◌, ℕ, ◌++◌, List, map, filter};
 ghost use Rattle.std.specs.List.{Contains};
 ghost use Rattle.dl_row.specs.Rows.{Epoch};
 ghost use Rattle.dl_migrate.specs.Lists.{drop_first};
@@ -7,7 +7,7 @@ ghost use Rattle.dl_migrate.specs.Moving.{migrated_rows};
 ghost use Rattle.dl_migrate.specs.Sweeping.{is_over};
 ghost use Rattle.dl_core.specs.History.{Load, Entry};
 ghost use Rattle.dl_core.specs.Root.{Root, IsInUse, IsLoad, StandsFor, epochs, shard};
-ghost use Rattle.dl_core.specs.Next.{Numbering, IsNumbering, migrated, behind, horizon, swept, reclaimed};
+ghost use Rattle.dl_core.specs.Next.{Numbering, IsNumbering, migrated, behind, horizon, swept, is_dead_in, reclaimed};
 ghost use Rattle.dl_core.specs.Legal.{IsLegal, root_from, root_of};
 ghost use Rattle.dl_core.specs.Scratch.{NoneOpens, bare_rows, scratch};
 ghost use Rattle.dl_core.specs.Steps.{longer};
@@ -30,6 +30,13 @@ pub fn epochs_in_use_remain()
         → Contains (epochs (reclaimed root)) e → IsInUse (reclaimed root) e }
     ensures all { (l : Load) (history : List Entry) (root : Root) → StandsFor l history root → (e : Epoch)
         → Contains (epochs root) e → IsInUse root e → Contains (epochs (reclaimed root)) e }
+    // The ids that are answered are exactly those of the others.
+    ensures answered { (l : Load) (history : List Entry) (root : Root) → StandsFor l history root → (e : Epoch)
+        → Contains (epochs root) e → Contains (map (λ d. d.id) (filter (is_dead_in root) root.older)) e.id
+        → IsInUse root e → ⊥ }
+    ensures unused { (l : Load) (history : List Entry) (root : Root) → StandsFor l history root → (e : Epoch)
+        → Contains (epochs root) e → (IsInUse root e → ⊥)
+        → Contains (map (λ d. d.id) (filter (is_dead_in root) root.older)) e.id }
 {}
 
 /// Where no row carries an older epoch, the visible rows are those of a load from scratch; and while no epoch opens, no

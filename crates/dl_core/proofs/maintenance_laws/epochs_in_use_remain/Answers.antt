@@ -1,4 +1,4 @@
-use Rattle.dl_core.proofs.InUseLemmas.{remaining_in_use, in_use_remains}
+use Rattle.dl_core.proofs.InUseLemmas.{remaining_in_use, in_use_remains, answered_unused, unused_answered}
 use Rattle.dl_core.proofs.maintenance_laws.epochs_in_use_remain.Goals as goal
 
 pub returns-clause-each : goal.returns-clause-each
@@ -6,3 +6,9 @@ returns-clause-each c = remaining_in_use
 
 pub returns-clause-all : goal.returns-clause-all
 returns-clause-all c = in_use_remains
+
+pub returns-clause-answered : goal.returns-clause-answered
+returns-clause-answered c = answered_unused
+
+pub returns-clause-unused : goal.returns-clause-unused
+returns-clause-unused c = unused_answered
