@@ -45,7 +45,7 @@ pub(crate) fn below_of(alloc: Global, asked: &Asked) -> Result<Below, AllocError
 }
 
 /// The axiom that one class is in another.
-fn inclusion(alloc: Global, sub: u32, sup: u32) -> Result<Axiom, AllocError>
+pub(crate) fn inclusion(alloc: Global, sub: u32, sup: u32) -> Result<Axiom, AllocError>
     ensures { IfOk result (λ a. a ≡ SubClass (basic.Class sub) (part.Class sup ∷ [])) }
 {
     Ok(Axiom::SubClass {
@@ -204,19 +204,19 @@ fn has(epoch: &Epoch, axioms: usize, classes: &[u32]) -> bool {
 /// Versions, and the place of the epoch that covers each.
 const COVERED: [(u32, u32); 6] = [(3, 0), (4, 0), (6, 0), (7, 1), (8, 1), (u32::MAX, 1)];
 
-/// Whether the epoch at a place covers a version.
-fn is_covered(epochs: &Epochs, version: u32, place: u32) -> bool {
+/// The place of the epoch that covers a version; none where none does.
+pub(crate) fn covering(epochs: &Epochs, version: u32) -> Option<u32> {
     let entries = epochs.entries();
     if entries.is_empty() || entries[0].first > version {
-        return false;
+        return None;
     }
-    epochs.covering(version) == place
+    Some(epochs.covering(version))
 }
 
 /// Whether versions are covered as a table says.
 fn are_covered(epochs: &Epochs, table: &[(u32, u32)]) -> bool {
     for row in table {
-        if !is_covered(epochs, row.0, row.1) {
+        if covering(epochs, row.0) != Some(row.1) {
             return false;
         }
     }

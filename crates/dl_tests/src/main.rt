@@ -13,6 +13,8 @@ mod faults;
 #[cfg(test)]
 mod hier;
 #[cfg(test)]
+mod history;
+#[cfg(test)]
 mod intervals;
 #[cfg(test)]
 mod io;
@@ -52,6 +54,10 @@ mod run;
 #[cfg(test)]
 mod scan;
 mod spelling;
+#[cfg(test)]
+mod store;
+#[cfg(test)]
+mod store_limits;
 mod tables;
 #[cfg(test)]
 mod terms;

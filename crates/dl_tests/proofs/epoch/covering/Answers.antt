@@ -1,6 +1,6 @@
 use Rattle.std.proofs.Common.{rules}
 use Rattle.dl_tests.proofs.EpochLemmas.{one_begins}
-use Rattle.dl_tests.proofs.epoch.is_covered.Goals as goal
+use Rattle.dl_tests.proofs.epoch.covering.Goals as goal
 
 pub covering-requires : goal.covering-requires
 covering-requires c =
