@@ -8,32 +8,32 @@ use dl_terms::{Axiom, Fact, NoMemory};
 use std::alloc::Global;
 
 /// The classes A, AA, B and C, the role P and three individuals, in name order.
-const A: u32 = 0;
+pub(crate) const A: u32 = 0;
 
-const AA: u32 = 1;
+pub(crate) const AA: u32 = 1;
 
-const B: u32 = 2;
+pub(crate) const B: u32 = 2;
 
-const C: u32 = 3;
+pub(crate) const C: u32 = 3;
 
 const P: u32 = 4;
 
-const ANN: u32 = 5;
+pub(crate) const ANN: u32 = 5;
 
-const BOB: u32 = 6;
+pub(crate) const BOB: u32 = 6;
 
-const CLEO: u32 = 7;
+pub(crate) const CLEO: u32 = 7;
 
-const A_ANN: Fact = Fact::Is { class: A, who: ANN };
+pub(crate) const A_ANN: Fact = Fact::Is { class: A, who: ANN };
 
-const A_BOB: Fact = Fact::Is { class: A, who: BOB };
+pub(crate) const A_BOB: Fact = Fact::Is { class: A, who: BOB };
 
-const A_CLEO: Fact = Fact::Is {
+pub(crate) const A_CLEO: Fact = Fact::Is {
     class: A,
     who: CLEO,
 };
 
-const B_BOB: Fact = Fact::Is { class: B, who: BOB };
+pub(crate) const B_BOB: Fact = Fact::Is { class: B, who: BOB };
 
 /// A is in B, and there is an A.
 const ONE_BELOW: Start = Start {
@@ -45,7 +45,7 @@ const ONE_BELOW: Start = Start {
 };
 
 /// What is loaded, and what a stream asks for and is told.
-type Case = (Start, &'static [(Asked, Told)]);
+pub(crate) type Case = (Start, &'static [(Asked, Told)]);
 
 const CASES: [Case; 5] = [
     // A new class opens an epoch, and all rows are old.
@@ -157,6 +157,7 @@ const CASES: [Case; 5] = [
                     rows: &[class_row!(1, 1, ANN, 4, OPEN)],
                 }),
             ),
+            (Asked::Sweep(0, 10), Told::Swept(1, 0)),
             (Asked::Commit(&[]), Told::Committed(5, 1)),
         ],
     ),
@@ -209,7 +210,7 @@ const CASES: [Case; 5] = [
             }),
         )],
     ),
-    // An unpin without a pin, and a pin beside another one.
+    // An unpin without a pin, a pin beside another one, and shards that aren't there.
     (
         Start {
             classes: &[],
@@ -222,6 +223,14 @@ const CASES: [Case; 5] = [
             (Asked::Unpin, Told::Refused(Refusal::NoPin)),
             (Asked::Pin, Told::Pinned(1)),
             (Asked::Pin, Told::Refused(Refusal::PinOpen { version: 1 })),
+            (
+                Asked::Migrate(2, 5),
+                Told::Refused(Refusal::NoShard { shard: 2 }),
+            ),
+            (
+                Asked::Sweep(9, 1),
+                Told::Refused(Refusal::NoShard { shard: 9 }),
+            ),
         ],
     ),
 ];
@@ -235,7 +244,7 @@ fn is_so(alloc: Global, case: &Case) -> Result<bool, LoadFault> {
 }
 
 /// Whether that is so in each row of a table.
-fn all_are_so(alloc: Global, table: &[Case]) -> Result<bool, LoadFault> {
+pub(crate) fn all_are_so(alloc: Global, table: &[Case]) -> Result<bool, LoadFault> {
     for case in table {
         if !is_so(alloc, case)? {
             return Ok(false);

@@ -25,6 +25,8 @@ mod join_order;
 #[cfg(test)]
 mod lex;
 #[cfg(test)]
+mod maintenance;
+#[cfg(test)]
 mod migrate;
 #[cfg(test)]
 mod models;

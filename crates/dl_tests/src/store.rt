@@ -146,6 +146,9 @@ pub(crate) enum Asked {
     Commit(&'static [(bool, Said)]),
     Pin,
     Unpin,
+    Migrate(u32, u64),
+    Sweep(u32, u64),
+    Reclaim,
     Look(u64),
 }
 
@@ -189,6 +192,15 @@ fn event_of(alloc: Global, asked: &Asked) -> Result<Event, NoMemory>
         Asked::Commit(rows) => Event::Commit(edits_of(alloc, rows)?),
         Asked::Pin => Event::Pin,
         Asked::Unpin => Event::Unpin,
+        Asked::Migrate(shard, n) => Event::Migrate {
+            shard: *shard,
+            n: *n,
+        },
+        Asked::Sweep(shard, n) => Event::Sweep {
+            shard: *shard,
+            n: *n,
+        },
+        Asked::Reclaim => Event::Reclaim,
         Asked::Look(rows) => Event::Look { rows: *rows },
     })
 }
@@ -208,6 +220,9 @@ pub(crate) enum Told {
     Committed(u32, u32),
     Pinned(u32),
     Unpinned(u32),
+    Migrated(u64, u64),
+    Swept(u64, u64),
+    Reclaimed(&'static [u32]),
     Looked(Shown),
     Refused(Refusal),
 }
@@ -238,6 +253,13 @@ fn is_told(reply: &Reply, told: &Told) -> bool {
         }
         Reply::Pinned { version } => matches!(told, Told::Pinned(v) if version == v),
         Reply::Unpinned { version } => matches!(told, Told::Unpinned(v) if version == v),
+        Reply::Migrated { moved, left } => {
+            matches!(told, Told::Migrated(m, l) if moved == m && left == l)
+        }
+        Reply::Swept { dropped, left } => {
+            matches!(told, Told::Swept(d, l) if dropped == d && left == l)
+        }
+        Reply::Reclaimed { ids } => matches!(told, Told::Reclaimed(all) if ids.as_slice() == *all),
         Reply::Looked(looked) => matches!(told, Told::Looked(shown) if shows(looked, shown)),
         Reply::Refused(why) => matches!(told, Told::Refused(refusal) if why == refusal),
     }
