@@ -25,7 +25,7 @@ use Rattle.dl_join.specs.declared.fault.JoinFault.{JoinFault}
 use Rattle.dl_join.specs.declared.fault.JoinFault.TheVariants as join
 use Rattle.dl_terms.specs.Table.{Table}
 use Rattle.dl_answer.specs.Replies.{AreOver, GivesTuples, RepliesTo}
-use Rattle.dl_answer.specs.declared.fault.AskFault.{AskFault}
+use Rattle.dl_core.specs.declared.answer.AskFault.{AskFault}
 use Rattle.dl_terms.specs.Reply.{IsReply, inconsistent, found}
 use Rattle.dl_terms.specs.Reply.IsReply.{is_inconsistent, is_too_many, is_found}
 use Rattle.dl_answer.specs.declared.broken.Verdict.{Verdict}
@@ -229,14 +229,14 @@ module _ (axioms : List Axiom) (facts : List Fact) (nothing : Option ℕ) (q : Q
       let told = subst (GivesTuples (IsCertain axioms facts q) limit) is gives in
       is_found none (record { ascending = told.0.ascending; exact = told.0.exact }) told.1
 
-  pub fault_told : (fault : JoinFault) (made : AskFault) → r ≡ Err fault → made ≡ fault_of fault
-      → RepliesTo axioms facts nothing q limit 1 (Err made)
-  fault_told fault made is same =
-      subst (λ m. RepliesTo axioms facts nothing q limit 1 (Err m)) (sym same)
+  pub fault_told : (version : ℕ) (fault : JoinFault) (made : AskFault) → r ≡ Err fault → made ≡ fault_of version fault
+      → RepliesTo axioms facts nothing q limit version (Err made)
+  fault_told version fault made is same =
+      subst (λ m. RepliesTo axioms facts nothing q limit version (Err m)) (sym same)
       (by fault (subst (GivesTuples (IsCertain axioms facts q) limit) is gives))
     where
       by : (fault : JoinFault) → GivesTuples (IsCertain axioms facts q) limit (Err fault)
-          → RepliesTo axioms facts nothing q limit 1 (Err (fault_of fault))
+          → RepliesTo axioms facts nothing q limit version (Err (fault_of version fault))
       by join.TooMany over = (
         is_too_many none (record { ascending = over.exact.ascending; exact = over.exact.exact }) over.longer,
         refl,

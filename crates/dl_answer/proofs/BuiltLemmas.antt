@@ -1,5 +1,5 @@
 -- What is built from axioms within the limits: their normal form, and the predicates of their hierarchy.
-use Rattle.std.proofs.Common.{◌≡◌, ◌+◌, ◌<◌, ◌≤◌, ◌^◌, List, [], ◌∷◌, length, refl, sym, subst, arith}
+use Rattle.std.proofs.Common.{◌≡◌, ◌+◌, ◌<◌, ◌≤◌, ◌^◌, List, [], ◌∷◌, length, refl, arith}
 use Rattle.std.specs.List.{All}
 use Rattle.std.proofs.lemmas.List.Sums.{sum_by-cons}
 use Rattle.std.proofs.lemmas.List.Elements.{All-weaker}
@@ -11,16 +11,16 @@ use Rattle.dl_terms.specs.declared.axiom.Signature.{Signature}
 use Rattle.dl_normal.specs.Indexed.{IsNormalForm}
 use Rattle.dl_normal.specs.Weight.{axiom_weight, total_weight}
 use Rattle.dl_hier.specs.Predicates.{Predicates}
-use Rattle.dl_hier.specs.Hierarchy.{Hierarchy, IsHierarchyOf}
+use Rattle.dl_hier.specs.Hierarchy.{Hierarchy}
 use Rattle.dl_hier.specs.Rows.{HasInclusions, ArePredicatesOf}
 use Rattle.dl_rewrite.proofs.KnownLemmas.{roles_had}
-use Rattle.dl_answer.specs.Facts.{HasPredicate, HasPredicates}
+use Rattle.dl_answer.specs.Facts.{HasPredicate}
 use Rattle.dl_epoch.specs.Known.{IsAxiomIn, max_weight}
 use Rattle.dl_epoch.specs.Frozen.{Frozen, IsHierarchyIn}
 use Rattle.dl_epoch.proofs.KnownLemmas.{has_names}
 use Rattle.dl_answer.specs.Replies.{normal_form}
-use Rattle.dl_answer.specs.Probes.{AreBehind, IsIndexOf}
-use Rattle.dl_answer.specs.declared.index.FactRows.{FactRows}
+use Rattle.dl_answer.specs.Probes.{AreBehind}
+use Rattle.dl_core.specs.Loading.{IsFactIn}
 
 -- axioms of a weight are no more than it
 pub length_by_weight : (axioms : List Axiom) → length axioms ≤ total_weight axioms
@@ -41,29 +41,23 @@ inclusions_of axioms normal is = record { roles = is.roles; concepts = is.concep
 
 -- the predicates of the facts are those of the hierarchy
 known_predicates : (signature : Signature) (normal : Normal) (p : Predicates) (facts : List Fact)
-    → ArePredicatesOf signature normal p → HasPredicates signature facts
+    → ArePredicatesOf signature normal p → All (IsFactIn signature) facts
     → All (HasPredicate p.classes p.properties) facts
-known_predicates signature normal p facts of known = All-weaker (HasPredicate signature.classes signature.roles)
-    (HasPredicate p.classes p.properties) each facts known
+known_predicates signature normal p facts of known =
+    All-weaker (IsFactIn signature) (HasPredicate p.classes p.properties) each facts known
   where
-    each : (f : Fact) → HasPredicate signature.classes signature.roles f → HasPredicate p.classes p.properties f
+    each : (f : Fact) → IsFactIn signature f → HasPredicate p.classes p.properties f
     each (Is c a) h = (of.classes.members c).1 h
     each (Link r a b) h = (of.properties.members r).1 h
 
--- what an epoch of axioms and a signature tells, beside an index of the facts
-pub epoch_behind : (e : Frozen) (h : Hierarchy) (index : FactRows) (axioms : List Axiom) (signature : Signature)
-    (facts : List Fact) → e.axioms ≡ axioms → e.signature ≡ signature → IsHierarchyIn e h
-    → All (IsAxiomIn signature) axioms → HasPredicates signature facts → IsIndexOf facts index
-    → AreBehind h index axioms facts
-epoch_behind e h index axioms signature facts same_axioms same_signature hierarchy known predicates indexed =
-    let normal = normal_form axioms in
-    let are : ArePredicatesOf signature normal h.predicates =
-    subst (λ s. ArePredicatesOf s normal h.predicates) same_signature
-    (hierarchy.predicates normal (subst (λ l. IsNormalForm l normal) (sym same_axioms) (is_normal axioms))) in
-    record {
-      hierarchy = subst (IsHierarchyOf h) same_axioms hierarchy.below;
-      has_roles = roles_had axioms signature normal h.predicates (inclusions_of axioms normal (is_normal axioms))
-          (has_names signature axioms normal known (is_normal axioms)) are;
-      known = known_predicates signature normal h.predicates facts are predicates;
-      indexed = indexed;
+-- what an epoch tells of its axioms, and of facts whose predicates are in its signature
+pub epoch_behind : (e : Frozen) (h : Hierarchy) (facts : List Fact) → IsHierarchyIn e h → All (IsAxiomIn e.signature) e.axioms
+    → All (IsFactIn e.signature) facts → AreBehind h e.axioms facts
+epoch_behind e h facts hierarchy known predicates =
+    let normal = normal_form e.axioms in
+    let are = hierarchy.predicates normal (is_normal e.axioms) in record {
+      hierarchy = hierarchy.below;
+      has_roles = roles_had e.axioms e.signature normal h.predicates (inclusions_of e.axioms normal (is_normal e.axioms))
+          (has_names e.signature e.axioms normal known (is_normal e.axioms)) are;
+      known = known_predicates e.signature normal h.predicates facts are predicates;
     }

@@ -31,8 +31,7 @@ use Rattle.dl_join.proofs.OrderLemmas.{pair_linear}
 use Rattle.dl_rewrite.specs.OverNames.{HasOverNames, SomeHasOverNames}
 use Rattle.dl_rewrite.specs.Shape.{IsShapedFor}
 use Rattle.dl_answer.specs.OverNames.{HoldsAlike}
-use Rattle.dl_answer.specs.Probes.{AreBelowProbe, AreBehind, facts_in}
-use Rattle.dl_answer.specs.declared.index.FactRows.{FactRows}
+use Rattle.dl_answer.specs.Probes.{AreBelowProbe, AreBehind}
 use Rattle.dl_answer.proofs.FactLemmas.{pairs_exist}
 use Rattle.dl_answer.proofs.TupleLemmas.{Decided, picked, some_decided, set_exists, exactly_exists, exactly_none, union_exists}
 use Rattle.dl_answer.proofs.StepLemmas.{holds_alike, exactly_over, exactly_same}
@@ -143,70 +142,66 @@ module _ (axioms : List Axiom) (h : Hierarchy) (of : IsHierarchyOf h axioms) whe
 
 -- ---- lists of pairs, and of tuples
 
-module _ (axioms : List Axiom) (facts : List Fact) (h : Hierarchy) (index : FactRows)
-    (behind : AreBehind h index axioms facts) where
-  list_exists : (probe : Probe) → (pairs : List (ℕ × ℕ)) × HoldsAlike axioms facts probe pairs
-  list_exists probe =
-      let below = below_exists axioms h behind.hierarchy probe in
-      let all = pairs_exist (facts_in index) below.0 in
-      let set = set_exists pair_linear all.0 in (
-        set.0,
-        holds_alike axioms facts h index behind below.0 set.0
-            record {
-              ascending = set.1;
-              exact = λ p. (λ c. (all.1 p).0 ((set.2 p).0 c), λ b. (set.2 p).1 ((all.1 p).1 b));
-            }
-            probe below.1,
-      )
+module _ (axioms : List Axiom) (facts : List Fact) (h : Hierarchy) (behind : AreBehind h axioms facts)
+  where
+    list_exists : (probe : Probe) → (pairs : List (ℕ × ℕ)) × HoldsAlike axioms facts probe pairs
+    list_exists probe =
+        let below = below_exists axioms h behind.hierarchy probe in
+        let all = pairs_exist facts below.0 in
+        let set = set_exists pair_linear all.0 in (
+          set.0,
+          holds_alike axioms facts h behind below.0 set.0
+              (λ p. (λ c. (all.1 p).0 ((set.2 p).0 c), λ b. (set.2 p).1 ((all.1 p).1 b))) probe below.1,
+        )
 
-  lists_exist : (probes : List Probe) → (lists : List (List (ℕ × ℕ))) × (length lists ≡ length probes)
-      × ((k : ℕ) (p : Probe) → k < length probes → HoldsAlike axioms facts (get_or probes k p) (get_or lists k []))
-  lists_exist [] = ([], refl, λ k p lt. absurd (omega (arith, lt)))
-  lists_exist (p ∷ ps) = by (list_exists p) (lists_exist ps)
-    where
-      by : (pairs : List (ℕ × ℕ)) × HoldsAlike axioms facts p pairs
-          → (lists : List (List (ℕ × ℕ))) × (length lists ≡ length ps)
-          × ((k : ℕ) (q : Probe) → k < length ps → HoldsAlike axioms facts (get_or ps k q) (get_or lists k []))
-          → (lists : List (List (ℕ × ℕ))) × (length lists ≡ length (p ∷ ps))
-          × ((k : ℕ) (q : Probe) → k < length (p ∷ ps) → HoldsAlike axioms facts (get_or (p ∷ ps) k q) (get_or lists k []))
-      by first rest = (first.0 ∷ rest.0, ap suc rest.1, each)
-        where
-          each : (k : ℕ) (q : Probe) → k < length (p ∷ ps)
-              → HoldsAlike axioms facts (get_or (p ∷ ps) k q) (get_or (first.0 ∷ rest.0) k [])
-          each zero q lt = first.1
-          each (suc k) q lt = rest.2 k q (omega (arith, lt))
+    lists_exist : (probes : List Probe) → (lists : List (List (ℕ × ℕ))) × (length lists ≡ length probes)
+        × ((k : ℕ) (p : Probe) → k < length probes → HoldsAlike axioms facts (get_or probes k p) (get_or lists k []))
+    lists_exist [] = ([], refl, λ k p lt. absurd (omega (arith, lt)))
+    lists_exist (p ∷ ps) = by (list_exists p) (lists_exist ps)
+      where
+        by : (pairs : List (ℕ × ℕ)) × HoldsAlike axioms facts p pairs
+            → (lists : List (List (ℕ × ℕ))) × (length lists ≡ length ps)
+            × ((k : ℕ) (q : Probe) → k < length ps → HoldsAlike axioms facts (get_or ps k q) (get_or lists k []))
+            → (lists : List (List (ℕ × ℕ))) × (length lists ≡ length (p ∷ ps))
+            × ((k : ℕ) (q : Probe) → k < length (p ∷ ps) → HoldsAlike axioms facts (get_or (p ∷ ps) k q) (get_or lists k []))
+        by first rest = (first.0 ∷ rest.0, ap suc rest.1, each)
+          where
+            each : (k : ℕ) (q : Probe) → k < length (p ∷ ps)
+                → HoldsAlike axioms facts (get_or (p ∷ ps) k q) (get_or (first.0 ∷ rest.0) k [])
+            each zero q lt = first.1
+            each (suc k) q lt = rest.2 k q (omega (arith, lt))
 
-  -- the tuples of a disjunct over names are those of some list
-  pub disjunct_exists : (q : Query) (d : Disjunct) → IsShapedFor q d
-      → (tuples : List (List ℕ)) × AreExactly (HasOverNames axioms facts d) tuples
-  disjunct_exists q d shaped =
-      let lists = lists_exist d.probes in
-      let all = exactly_exists d.vars d lists.0 lists.1 shaped.below shaped.safe in
-      (all.0, exactly_over d lists.0 axioms facts lists.2 all.0 all.1)
+    -- the tuples of a disjunct over names are those of some list
+    pub disjunct_exists : (q : Query) (d : Disjunct) → IsShapedFor q d
+        → (tuples : List (List ℕ)) × AreExactly (HasOverNames axioms facts d) tuples
+    disjunct_exists q d shaped =
+        let lists = lists_exist d.probes in
+        let all = exactly_exists d.vars d lists.0 lists.1 shaped.below shaped.safe in
+        (all.0, exactly_over d lists.0 axioms facts lists.2 all.0 all.1)
 
-  -- and so are those of some disjuncts together
-  pub some_exist : (q : Query) (ds : List Disjunct) → All (IsShapedFor q) ds
-      → (tuples : List (List ℕ)) × AreExactly (SomeHasOverNames axioms facts ds) tuples
-  some_exist q [] shaped = (
-    [],
-    exactly_none (SomeHasOverNames axioms facts [])
-        (λ t h. Contains-nil h.disjunct h.is_one),
-  )
-  some_exist q (d ∷ ds) shaped =
-      let one = disjunct_exists q d (All-head (IsShapedFor q) d ds shaped) in
-      let rest = some_exist q ds (All-tail (IsShapedFor q) d ds shaped) in
-      let all = union_exists (HasOverNames axioms facts d) (SomeHasOverNames axioms facts ds) one.0 rest.0 one.1 rest.1 in
-      (all.0, exactly_same _ _ (λ t. (first_or_rest t, one_of t)) all.0 all.1)
-    where
-      first_or_rest : (t : List ℕ) → HasOverNames axioms facts d t ⊎ SomeHasOverNames axioms facts ds t
-          → SomeHasOverNames axioms facts (d ∷ ds) t
-      first_or_rest t (inl has) = record { disjunct = d; is_one = Contains-first d ds; has = has }
-      first_or_rest t (inr some) =
-          record { disjunct = some.disjunct; is_one = Contains-later d some.disjunct ds some.is_one; has = some.has }
+    -- and so are those of some disjuncts together
+    pub some_exist : (q : Query) (ds : List Disjunct) → All (IsShapedFor q) ds
+        → (tuples : List (List ℕ)) × AreExactly (SomeHasOverNames axioms facts ds) tuples
+    some_exist q [] shaped = (
+      [],
+      exactly_none (SomeHasOverNames axioms facts [])
+          (λ t h. Contains-nil h.disjunct h.is_one),
+    )
+    some_exist q (d ∷ ds) shaped =
+        let one = disjunct_exists q d (All-head (IsShapedFor q) d ds shaped) in
+        let rest = some_exist q ds (All-tail (IsShapedFor q) d ds shaped) in
+        let all = union_exists (HasOverNames axioms facts d) (SomeHasOverNames axioms facts ds) one.0 rest.0 one.1 rest.1 in
+        (all.0, exactly_same _ _ (λ t. (first_or_rest t, one_of t)) all.0 all.1)
+      where
+        first_or_rest : (t : List ℕ) → HasOverNames axioms facts d t ⊎ SomeHasOverNames axioms facts ds t
+            → SomeHasOverNames axioms facts (d ∷ ds) t
+        first_or_rest t (inl has) = record { disjunct = d; is_one = Contains-first d ds; has = has }
+        first_or_rest t (inr some) =
+            record { disjunct = some.disjunct; is_one = Contains-later d some.disjunct ds some.is_one; has = some.has }
 
-      one_of : (t : List ℕ) → SomeHasOverNames axioms facts (d ∷ ds) t
-          → HasOverNames axioms facts d t ⊎ SomeHasOverNames axioms facts ds t
-      one_of t some = elim (Contains-cons d some.disjunct ds some.is_one) [
-        | inl same ↦ inl (subst (λ e. HasOverNames axioms facts e t) (sym same) some.has)
-        | inr there ↦ inr record { disjunct = some.disjunct; is_one = there; has = some.has }
-      ]
+        one_of : (t : List ℕ) → SomeHasOverNames axioms facts (d ∷ ds) t
+            → HasOverNames axioms facts d t ⊎ SomeHasOverNames axioms facts ds t
+        one_of t some = elim (Contains-cons d some.disjunct ds some.is_one) [
+          | inl same ↦ inl (subst (λ e. HasOverNames axioms facts e t) (sym same) some.has)
+          | inr there ↦ inr record { disjunct = some.disjunct; is_one = there; has = some.has }
+        ]

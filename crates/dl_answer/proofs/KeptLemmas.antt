@@ -12,7 +12,7 @@ use Rattle.std.specs.Cmp.Lexicographic.{slice_cmp}
 use Rattle.std.proofs.Math.Path.{fun_ext}
 use Rattle.std.proofs.lemmas.Bool.{cases_lt}
 use Rattle.std.proofs.lemmas.List.{take_more, take_all, get_or_default, get_or_append_left, get_or_push, length_push}
-use Rattle.std.proofs.lemmas.List.Elements.{All-weaker, Contains-push_cases}
+use Rattle.std.proofs.lemmas.List.Elements.{All-weaker, All-push, Contains-push_cases}
 use Rattle.dl_terms.specs.Order.{basic_cmp}
 use Rattle.dl_terms.specs.contracts.role.BasicOrd.TheImpl as basic_impl
 use Rattle.dl_terms.specs.declared.role.Basic.TheVariants.{Class, SomeOf}
@@ -28,7 +28,6 @@ use Rattle.dl_terms.specs.Table.{Table}
 use Rattle.dl_terms.specs.declared.query.Disjunct.{Disjunct}
 use Rattle.dl_terms.proofs.MemberLemmas.{Contains-nil}
 use Rattle.dl_hier.specs.Predicates.{Predicates}
-use Rattle.dl_hier.specs.Hierarchy.{Hierarchy}
 use Rattle.dl_hier.specs.declared.below.Below.{Below}
 use Rattle.dl_join.specs.Disjuncts as join
 use Rattle.dl_join.specs.Disjuncts.{pair_cmp, AreSorted}
@@ -36,11 +35,11 @@ use Rattle.std.specs.List.Sorted.{IsSorted}
 use Rattle.dl_join.specs.Tuples.{AreExactly}
 use Rattle.dl_answer.proofs.TupleLemmas.{exactly_none}
 use Rattle.dl_rewrite.specs.OverNames.{ProbeHolds, HasOverNames}
-use Rattle.dl_answer.specs.Probes.{AreBelowProbe, AreBehind, AskAlike, IsListOf, AreListsOf}
+use Rattle.dl_answer.specs.Probes.{AreBelowProbe, AskAlike, HoldAlike}
+use Rattle.dl_answer.specs.OverNames.{HoldsAlike}
 use Rattle.dl_answer.specs.Replies.{GivesTuples}
 use Rattle.dl_answer.specs.Kept.{IsKept, IsSlotKept, AreFirst}
 use Rattle.dl_answer.specs.declared.slots.Kept.{Kept}
-use Rattle.dl_answer.specs.declared.index.FactRows.{FactRows}
 
 -- ---- probes that ask the same
 
@@ -66,118 +65,131 @@ below_alike axioms p (Joined role t u) (AnyOf basics w) below same is = absurd s
 below_alike axioms p (Joined role t u) (Joined other w x) below same is =
     subst (λ r. AreBelowProbe axioms p (Joined r w x) below) same is
 
-module _ (h : Hierarchy) (index : FactRows) where
+module _ (axioms : List Axiom) (facts : List Fact) where
   -- the list of the one is a list of the other
-  pub list_alike : (one other : Probe) (pairs : List (ℕ × ℕ)) → AskAlike one other → IsListOf h index one pairs
-      → IsListOf h index other pairs
-  list_alike one other pairs same is = record {
-    sorted = is.sorted;
-    holds = λ axioms facts behind q alike. is.holds axioms facts behind q (alike_then one other q same alike);
-  }
+  pub list_alike : (one other : Probe) (pairs : List (ℕ × ℕ)) → AskAlike one other → HoldAlike axioms facts one pairs
+      → HoldAlike axioms facts other pairs
+  list_alike one other pairs same hold q alike = hold q (alike_then one other q same alike)
 
   -- a probe over no pair never holds
-  pub empty_fails : (p : Probe) → IsListOf h index p [] → (axioms : List Axiom) (facts : List Fact)
-      → AreBehind h index axioms facts → (names : ℕ → ℕ) → ProbeHolds axioms facts names p → ⊥
-  empty_fails p is axioms facts behind names held =
-      none p ((is.holds axioms facts behind p (alike_itself p) names).1 held)
+  pub empty_fails : (p : Probe) → HoldAlike axioms facts p [] → (names : ℕ → ℕ) → ProbeHolds axioms facts names p → ⊥
+  empty_fails p hold names held = none p ((hold p (alike_itself p) names).1 held)
     where
       none : (q : Probe) → join.ProbeHolds names [] q → ⊥
       none (AnyOf basics t) w = Contains-nil _ w.1
       none (Joined role t u) c = Contains-nil _ c
 
--- a disjunct of which a probe has no pair has no tuple
-pub empty_gives : (h : Hierarchy) (index : FactRows) (d : Disjunct) (limit : ℕ) (table : Table)
-    → Any (λ p. IsListOf h index p []) d.probes → table.tuples ≡ [] → (axioms : List Axiom) (facts : List Fact)
-    → AreBehind h index axioms facts → GivesTuples (HasOverNames axioms facts d) limit (Ok table)
-empty_gives h index d limit table some none axioms facts behind = (
-  subst (AreExactly (HasOverNames axioms facts d)) (sym none)
-      (exactly_none (HasOverNames axioms facts d)
-      (λ t has. empty_fails h index some.1 some.4 axioms facts behind has.names
-      (has.probes some.1 (some.0, some.2, some.3)))),
-  omega (arith, ap length none),
-)
+  -- a disjunct of which a probe has no pair has no tuple
+  pub empty_gives : (d : Disjunct) (limit : ℕ) (table : Table) → Any (λ p. HoldAlike axioms facts p []) d.probes
+      → table.tuples ≡ [] → GivesTuples (HasOverNames axioms facts d) limit (Ok table)
+  empty_gives d limit table some none = (
+    subst (AreExactly (HasOverNames axioms facts d)) (sym none)
+        (exactly_none (HasOverNames axioms facts d)
+        (λ t has. empty_fails some.1 some.4 has.names (has.probes some.1 (some.0, some.2, some.3)))),
+    omega (arith, ap length none),
+  )
 
 -- ---- lists of the first of some probes
 
 any_probe : Probe
 any_probe = Joined 0 (Name 0) (Name 0)
 
-module _ (h : Hierarchy) (index : FactRows) (probes : List Probe) where
-  pub first_none : (lists : List (List (ℕ × ℕ))) → lists ≡ [] → AreFirst h index probes lists
+module _ (axioms : List Axiom) (facts : List Fact) (probes : List Probe) where
+  pub first_none : (lists : List (List (ℕ × ℕ))) → lists ≡ [] → AreFirst axioms facts probes lists
   first_none lists none k p lt = absurd (omega (arith, lt, ap length none))
 
   -- one list more
   pub first_push : (i : ℕ) (probe : Probe) (old new : List (List (ℕ × ℕ))) (pairs : List (ℕ × ℕ)) → i < length probes
-      → probe ≡ get_or probes i probe → length old ≡ i → AreFirst h index probes old → IsListOf h index probe pairs
-      → new ≡ old ++ pairs ∷ [] → AreFirst h index probes new
+      → probe ≡ get_or probes i probe → length old ≡ i → AreFirst axioms facts probes old
+      → HoldAlike axioms facts probe pairs → new ≡ old ++ pairs ∷ [] → AreFirst axioms facts probes new
   first_push i probe old new pairs inside at size first is grown =
-      subst (AreFirst h index probes) (sym grown) (λ k p lt. elim (cases_lt k (length old)) [
+      subst (AreFirst axioms facts probes) (sym grown) (λ k p lt. elim (cases_lt k (length old)) [
         | inl before ↦
-            subst (IsListOf h index (get_or probes k p)) (sym (get_or_append_left old (pairs ∷ []) [] k before))
+            subst (HoldAlike axioms facts (get_or probes k p)) (sym (get_or_append_left old (pairs ∷ []) [] k before))
             (first k p before)
         | inr past ↦
             let longer = length_push old pairs in
             let last : k ≡ i = omega (arith, past, lt, longer, size) in
-            subst (λ j. IsListOf h index (get_or probes j p) (get_or (old ++ pairs ∷ []) j [])) (sym last)
-            (subst (λ q. IsListOf h index q (get_or (old ++ pairs ∷ []) i [])) (at ∙ get_or_default probes i probe p inside)
-            (subst (IsListOf h index probe) (sym (get_or_push old pairs [] i size)) is))
+            subst (λ j. HoldAlike axioms facts (get_or probes j p) (get_or (old ++ pairs ∷ []) j [])) (sym last)
+            (subst (λ q. HoldAlike axioms facts q (get_or (old ++ pairs ∷ []) i [])) (at ∙ get_or_default probes i probe p inside)
+            (subst (HoldAlike axioms facts probe) (sym (get_or_push old pairs [] i size)) is))
       ])
 
   -- without the last list, and that list
   module _ (old new : List (List (ℕ × ℕ))) (pairs : List (ℕ × ℕ)) (is : old ≡ new ++ pairs ∷ [])
-      (first : AreFirst h index probes old) where
+      (first : AreFirst axioms facts probes old) where
     longer : length old ≡ length new + 1
     longer = ap length is ∙ length_push new pairs
 
-    pub first_front : AreFirst h index probes new
+    pub first_front : AreFirst axioms facts probes new
     first_front k p lt =
         let inside : k < length old = omega (arith, lt, longer) in
-        subst (IsListOf h index (get_or probes k p))
+        subst (HoldAlike axioms facts (get_or probes k p))
         (ap (λ l. get_or l k []) is ∙ get_or_append_left new (pairs ∷ []) [] k lt) (first k p inside)
 
     pub first_last : (i : ℕ) (probe : Probe) → i ≡ length new → i < length probes → probe ≡ get_or probes i probe
-        → IsListOf h index probe pairs
+        → HoldAlike axioms facts probe pairs
     first_last i probe here inside at =
         let there : i < length old = omega (arith, here, longer) in
-        subst (λ q. IsListOf h index q pairs) (sym at)
-        (subst (IsListOf h index (get_or probes i probe))
+        subst (λ q. HoldAlike axioms facts q pairs) (sym at)
+        (subst (HoldAlike axioms facts (get_or probes i probe))
         (ap (λ l. get_or l i []) is ∙ get_or_push new pairs [] i (sym here)) (first i probe there))
 
-  module _ (lists : List (List (ℕ × ℕ))) (first : AreFirst h index probes lists) where
-    pub first_sorted : AreSorted lists
-    first_sorted k d lt = subst (IsSorted pair_cmp) (get_or_default lists k [] d lt) (first k any_probe lt).sorted
+  module _ (lists : List (List (ℕ × ℕ))) (first : AreFirst axioms facts probes lists) where
+    -- where there is one for each probe, each holds over its own
+    pub lists_whole : length lists ≡ length probes → (k : ℕ) (p : Probe) → k < length probes
+        → HoldsAlike axioms facts (get_or probes k p) (get_or lists k [])
+    lists_whole same k p lt =
+        let inside : k < length lists = omega (arith, lt, same) in
+        first k p inside (get_or probes k p) (alike_itself (get_or probes k p))
 
-    -- where none of them is empty, they are those of all probes
-    pub lists_whole : length lists ≡ length probes → AreListsOf h index probes lists
-    lists_whole same = record {
-      count = same;
-      sorted = first_sorted;
-      each = λ axioms facts behind k p lt.
-          let inside : k < length lists = omega (arith, lt, same) in
-          (first k p inside).holds axioms facts behind (get_or probes k p) (alike_itself (get_or probes k p));
-    }
-
-    -- where one is, a probe has no pair
-    pub some_empty : Any (λ l. l ≡ []) lists → length lists ≤ length probes → Any (λ p. IsListOf h index p []) probes
+    -- where one is empty, a probe has no pair
+    pub some_empty : Any (λ l. l ≡ []) lists → length lists ≤ length probes
+        → Any (λ p. HoldAlike axioms facts p []) probes
     some_empty any few =
         let inside : any.0 < length probes = omega (arith, any.2, few) in (
           any.0,
           get_or probes any.0 any_probe,
           inside,
           get_or_default probes any.0 (get_or probes any.0 any_probe) any_probe inside,
-          subst (IsListOf h index (get_or probes any.0 any_probe))
+          subst (HoldAlike axioms facts (get_or probes any.0 any_probe))
               (get_or_default lists any.0 [] any.1 any.2 ∙ (any.3 ∙ any.4)) (first any.0 any_probe any.2),
         )
 
 -- a probe that asks the same as one of them has the list of that
-pub earlier_list : (h : Hierarchy) (index : FactRows) (probes : List Probe) (lists : List (List (ℕ × ℕ))) (k : ℕ)
-    (one probe : Probe) (list pairs : List (ℕ × ℕ)) → k < length lists → one ≡ get_or probes k one
-    → list ≡ get_or lists k list → AskAlike one probe → pairs ≡ list → AreFirst h index probes lists
-    → IsListOf h index probe pairs
-earlier_list h index probes lists k one probe list pairs lt is_one is_list alike same first =
-    subst (IsListOf h index probe) (get_or_default lists k [] list lt ∙ (sym is_list ∙ sym same))
-    (list_alike h index one probe (get_or lists k []) alike
-    (subst (λ q. IsListOf h index q (get_or lists k [])) (sym is_one) (first k one lt)))
+pub earlier_list : (axioms : List Axiom) (facts : List Fact) (probes : List Probe) (lists : List (List (ℕ × ℕ)))
+    (k : ℕ) (one probe : Probe) (list pairs : List (ℕ × ℕ)) → k < length lists → one ≡ get_or probes k one
+    → list ≡ get_or lists k list → AskAlike one probe → pairs ≡ list → AreFirst axioms facts probes lists
+    → HoldAlike axioms facts probe pairs
+earlier_list axioms facts probes lists k one probe list pairs lt is_one is_list alike same first =
+    subst (HoldAlike axioms facts probe) (get_or_default lists k [] list lt ∙ (sym is_list ∙ sym same))
+    (list_alike axioms facts one probe (get_or lists k []) alike
+    (subst (λ q. HoldAlike axioms facts q (get_or lists k [])) (sym is_one) (first k one lt)))
+
+-- one of some sorted lists
+pub sorted_one : (lists : List (List (ℕ × ℕ))) (k : ℕ) (list pairs : List (ℕ × ℕ)) → AreSorted lists → k < length lists
+    → list ≡ get_or lists k list → pairs ≡ list → IsSorted pair_cmp pairs
+sorted_one lists k list pairs sorted lt is same = subst (IsSorted pair_cmp) (sym (same ∙ is)) (sorted k list lt)
+
+-- one more
+pub sorted_more : (old new : List (List (ℕ × ℕ))) (pairs : List (ℕ × ℕ)) → AreSorted old → IsSorted pair_cmp pairs
+    → new ≡ old ++ pairs ∷ [] → AreSorted new
+sorted_more old new pairs sorted is grown =
+    subst AreSorted (sym grown) (All-push (IsSorted pair_cmp) old pairs sorted is)
+
+-- without the last one, and that one
+module _ (old new : List (List (ℕ × ℕ))) (pairs : List (ℕ × ℕ)) (is : old ≡ new ++ pairs ∷ []) (sorted : AreSorted old)
+  where
+    pub sorted_front : AreSorted new
+    sorted_front k d lt =
+        let inside : k < length old = omega (arith, lt, ap length is, length_push new pairs) in
+        subst (IsSorted pair_cmp) (ap (λ l. get_or l k d) is ∙ get_or_append_left new (pairs ∷ []) d k lt) (sorted k d inside)
+
+    pub sorted_last : IsSorted pair_cmp pairs
+    sorted_last =
+        let inside : length new < length old = omega (arith, ap length is, length_push new pairs) in
+        subst (IsSorted pair_cmp) (ap (λ l. get_or l (length new) pairs) is ∙ get_or_push new pairs pairs (length new) refl)
+        (sorted (length new) pairs inside)
 
 -- the last of some lists is empty
 pub last_empty : (old new : List (List (ℕ × ℕ))) (pairs : List (ℕ × ℕ)) → new ≡ old ++ pairs ∷ [] → pairs ≡ []
@@ -193,17 +205,19 @@ last_empty old new pairs grown none =
 
 -- ---- slots
 
-module _ (h : Hierarchy) (index : FactRows) where
-  pub none_kept : (slots : List (Option Kept)) → All (λ slot. slot ≡ None) slots → All (IsSlotKept h index) slots
+module _ (axioms : List Axiom) (facts : List Fact) where
+  pub none_kept : (slots : List (Option Kept)) → All (λ slot. slot ≡ None) slots
+      → All (IsSlotKept axioms facts) slots
   none_kept slots none =
-      All-weaker (λ slot. slot ≡ None) (IsSlotKept h index) (λ slot is. subst (IsSlotKept h index) (sym is) tt) slots none
+      All-weaker (λ slot. slot ≡ None) (IsSlotKept axioms facts) (λ slot is. subst (IsSlotKept axioms facts) (sym is) tt)
+      slots none
 
   -- what is moved out of a slot
-  pub moved_out : (slots : List (Option Kept)) (i : ℕ) (out : Option Kept) → All (IsSlotKept h index) slots
-      → i < length slots → out ≡ get_or slots i out → IfSome out (IsKept h index)
-  moved_out slots i out all inside is = by out (subst (IsSlotKept h index) (sym is) (all i out inside))
+  pub moved_out : (slots : List (Option Kept)) (i : ℕ) (out : Option Kept) → All (IsSlotKept axioms facts) slots
+      → i < length slots → out ≡ get_or slots i out → IfSome out (IsKept axioms facts)
+  moved_out slots i out all inside is = by out (subst (IsSlotKept axioms facts) (sym is) (all i out inside))
     where
-      by : (o : Option Kept) → IsSlotKept h index o → IfSome o (IsKept h index)
+      by : (o : Option Kept) → IsSlotKept axioms facts o → IfSome o (IsKept axioms facts)
       by None kept = tt
       by (Some one) kept = kept
 

@@ -2,7 +2,8 @@ pub mod NameLemmas
 pub mod BuiltLemmas
 pub mod TupleLemmas
 pub mod FactLemmas
-pub mod RowLemmas
+pub mod ReaderLemmas
+pub mod TakenLemmas
 pub mod BelowLemmas
 pub mod StepLemmas
 pub mod DecidedLemmas
@@ -10,4 +11,6 @@ pub mod UnionLemmas
 pub mod KeptLemmas
 pub mod BrokenLemmas
 pub mod SiftedLemmas
+pub mod ListLemmas
+pub mod AskLemmas
 pub mod SearchLemmas

@@ -6,16 +6,11 @@ use Rattle.dl_terms.specs.Answers.{AscendStrictly}
 use Rattle.dl_terms.specs.Table.{Table}
 use Rattle.dl_terms.specs.declared.axiom.Axiom.{Axiom}
 use Rattle.dl_terms.specs.declared.axiom.Fact.{Fact}
-use Rattle.dl_terms.specs.declared.query.Probe.{Probe}
-use Rattle.dl_hier.specs.Hierarchy.{Hierarchy}
 use Rattle.dl_join.specs.Tuples.{AreExactly, tuple_cmp}
 use Rattle.dl_join.specs.declared.fault.JoinFault.{JoinFault}
 use Rattle.dl_join.proofs.MergeLemmas.{sorted_nil}
-use Rattle.dl_answer.specs.Probes.{AreBehind}
-use Rattle.dl_answer.specs.Kept.{AreFirst}
 use Rattle.dl_answer.specs.Replies.{GivesTuples}
-use Rattle.dl_answer.specs.Searches.{FindsTuples, AreBehindFirst}
-use Rattle.dl_answer.specs.declared.index.FactRows.{FactRows}
+use Rattle.dl_answer.specs.Searches.{FindsTuples}
 
 module _ (Behind : List Axiom → List Fact → Type 0) (P : List Axiom → List Fact → List ℕ → Type 0) (columns limit : ℕ)
   where
@@ -52,19 +47,14 @@ module _ (Behind : List Axiom → List Fact → Type 0) (P : List Axiom → List
       tuples = gives;
     }
 
--- over lists that are the first of some probes, for whatever is behind the hierarchy and the index that they are of
-pub finds_by_first : (h : Hierarchy) (index : FactRows) (probes : List Probe) (lists : List (List (ℕ × ℕ)))
-    (P : List Axiom → List Fact → List ℕ → Type 0) (columns limit : ℕ) (result : Result Table JoinFault)
-    → AreFirst h index probes lists → FindsTuples (AreBehindFirst probes lists) P columns limit result
-    → FindsTuples (AreBehind h index) P columns limit result
-finds_by_first h index probes lists P columns limit result first finds = record {
+-- what is found by whatever is behind, is found by what is so
+pub finds_by : (Behind Other : List Axiom → List Fact → Type 0) (P : List Axiom → List Fact → List ℕ → Type 0)
+    (columns limit : ℕ) (result : Result Table JoinFault)
+    → ((axioms : List Axiom) (facts : List Fact) → Other axioms facts → Behind axioms facts)
+    → FindsTuples Behind P columns limit result → FindsTuples Other P columns limit result
+finds_by Behind Other P columns limit result is finds = record {
   ascending = finds.ascending;
   width = finds.width;
   within = finds.within;
-  tuples = λ axioms facts behind. finds.tuples axioms facts record {
-    hierarchy = h;
-    index = index;
-    first = first;
-    behind = behind;
-  };
+  tuples = λ axioms facts other. finds.tuples axioms facts (is axioms facts other);
 }

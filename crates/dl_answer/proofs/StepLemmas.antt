@@ -1,7 +1,7 @@
 -- What the functions of this crate need, step by step: lists of probes, and tuples.
 use Rattle.std.proofs.Common.{◌≡◌, ℕ, Result, Ok, Err, ◌+◌, ◌<◌, ◌≤◌, ◌↔◌, List, [], length, get_or, refl, ap, subst, ◌∙◌, arith}
 use Rattle.std.specs.Ordering.{is_lt, ordering_reverse}
-use Rattle.std.specs.List.{All, Contains}
+use Rattle.std.specs.List.{All}
 use Rattle.std.specs.List.Sorted.{IsSorted, IsStrictlySortedBy}
 use Rattle.std.proofs.lemmas.List.Elements.{All-weaker, Contains-get_or}
 use Rattle.std.specs.Prelude.{IfOk}
@@ -13,21 +13,19 @@ use Rattle.dl_terms.specs.declared.query.Probe.TheVariants.{AnyOf, Joined}
 use Rattle.dl_terms.specs.declared.query.Disjunct.{Disjunct}
 use Rattle.dl_hier.specs.Hierarchy.{Hierarchy}
 use Rattle.dl_hier.specs.declared.below.Below.{Below}
-use Rattle.dl_join.specs.Disjuncts.{name_of, pair_cmp, AllHold, IsTuple, IsSafe}
+use Rattle.dl_join.specs.Disjuncts.{name_of, pair_cmp, IsTuple, IsSafe}
 use Rattle.dl_join.specs.Tuples.{AreExactly, AreMoreThan}
 use Rattle.dl_join.specs.declared.fault.JoinFault.{JoinFault}
 use Rattle.dl_join.specs.declared.fault.JoinFault.TheVariants.{TooMany, NoMemory}
 use Rattle.dl_join.proofs.MergeLemmas.{sorted_at}
 use Rattle.dl_join.proofs.OrderLemmas.{pair_linear}
 use Rattle.dl_scan.specs.Pairs.{IsPairBelow}
-use Rattle.dl_scan.proofs.BelowLemmas.{pair-more}
 use Rattle.dl_rewrite.specs.OverNames.{ProbeHolds, HasOverNames}
 use Rattle.dl_answer.specs.OverNames.{HoldsAlike, AreBelow}
-use Rattle.dl_answer.specs.Probes.{AreBelowProbe, AreBehind, AreListsOf, ArePairsBelow, facts_in}
+use Rattle.dl_answer.specs.Probes.{AreBelowProbe, AreBehind, ArePairsBelow}
 use Rattle.dl_answer.specs.Facts.{HasPredicate}
-use Rattle.dl_answer.specs.Sifted.{AreTogether}
+use Rattle.dl_answer.specs.Sifted.{HoldTogether}
 use Rattle.dl_answer.specs.Replies.{AreOver, GivesTuples}
-use Rattle.dl_answer.specs.declared.index.FactRows.{FactRows}
 use Rattle.dl_answer.proofs.BelowLemmas.{holds_by_pair, pair_of_held, joins_by_pair, pair_of_joined}
 use Rattle.dl_answer.proofs.TupleLemmas.{exactly_exists, over_exactly}
 
@@ -62,34 +60,21 @@ pair_holds axioms facts h known below (Joined role t u) is names = (
       (name_of names t) (name_of names u) j,
 )
 
-module _ (axioms : List Axiom) (facts : List Fact) (h : Hierarchy) (index : FactRows)
-    (behind : AreBehind h index axioms facts) (below : Below) where
-  pub pair_below : (p : ℕ × ℕ) → IsPairBelow (facts_in index) below p → IsPairBelow facts below p
-  pair_below p b = pair-more (facts_in index) facts below p (λ f. (behind.indexed.same f).0) b
-
-  pub below_pair : (p : ℕ × ℕ) → IsPairBelow facts below p → IsPairBelow (facts_in index) below p
-  below_pair p b = pair-more facts (facts_in index) below p (λ f. (behind.indexed.same f).1) b
-
-  module _ (pairs : List (ℕ × ℕ)) (are : ArePairsBelow index below pairs) where
-    to_pair : (p : ℕ × ℕ) → Contains pairs p → IsPairBelow facts below p
-    to_pair p c = pair_below p ((are.exact p).0 c)
-
-    of_pair : (p : ℕ × ℕ) → IsPairBelow facts below p → Contains pairs p
-    of_pair p b = (are.exact p).1 (below_pair p b)
-
-    -- over the pairs of the facts below it a probe holds exactly where it holds over axioms and facts
-    pub holds_alike : (probe : Probe) → AreBelowProbe axioms h.predicates probe below
-        → HoldsAlike axioms facts probe pairs
-    holds_alike (AnyOf basics t) is names =
-        let held = pair_holds axioms facts h behind.known below (AnyOf basics t) is names in (
-          λ w. held.0 (w.0, to_pair (name_of names t, w.0) w.1),
-          λ w. let p = held.1 w in (p.0, of_pair (name_of names t, p.0) p.1),
-        )
-    holds_alike (Joined role t u) is names =
-        let held = pair_holds axioms facts h behind.known below (Joined role t u) is names in (
-          λ c. held.0 (to_pair (name_of names t, name_of names u) c),
-          λ j. of_pair (name_of names t, name_of names u) (held.1 j),
-        )
+-- over the pairs of the facts below it a probe holds exactly where it holds over axioms and facts
+module _ (axioms : List Axiom) (facts : List Fact) (h : Hierarchy) (behind : AreBehind h axioms facts) (below : Below)
+    (pairs : List (ℕ × ℕ)) (are : ArePairsBelow facts below pairs) where
+  pub holds_alike : (probe : Probe) → AreBelowProbe axioms h.predicates probe below
+      → HoldsAlike axioms facts probe pairs
+  holds_alike (AnyOf basics t) is names =
+      let held = pair_holds axioms facts h behind.known below (AnyOf basics t) is names in (
+        λ w. held.0 (w.0, (are (name_of names t, w.0)).0 w.1),
+        λ w. let p = held.1 w in (p.0, (are (name_of names t, p.0)).1 p.1),
+      )
+  holds_alike (Joined role t u) is names =
+      let held = pair_holds axioms facts h behind.known below (Joined role t u) is names in (
+        λ c. held.0 ((are (name_of names t, name_of names u)).0 c),
+        λ j. (are (name_of names t, name_of names u)).1 (held.1 j),
+      )
 
 -- ---- tuples
 
@@ -102,8 +87,7 @@ exactly_same P Q same tuples is = record {
 }
 
 module _ (d : Disjunct) (lists : List (List (ℕ × ℕ))) (axioms : List Axiom) (facts : List Fact)
-    (together : (names : ℕ → ℕ) → AllHold names d.probes lists
-    ↔ ((p : Probe) → Contains d.probes p → ProbeHolds axioms facts names p)) where
+    (together : HoldTogether axioms facts d.probes lists) where
   -- the tuples over the lists are those over axioms and facts
   tuple_over : (tuple : List ℕ) → IsTuple d lists tuple ↔ HasOverNames axioms facts d tuple
   tuple_over tuple = (
@@ -119,8 +103,7 @@ module _ (d : Disjunct) (lists : List (List (ℕ × ℕ))) (axioms : List Axiom)
 module _ (d : Disjunct) (lists : List (List (ℕ × ℕ))) (axioms : List Axiom) (facts : List Fact)
     (each : (k : ℕ) (p : Probe) → k < length d.probes → HoldsAlike axioms facts (get_or d.probes k p)
     (get_or lists k [])) where
-  all_together : (names : ℕ → ℕ) → AllHold names d.probes lists
-      ↔ ((p : Probe) → Contains d.probes p → ProbeHolds axioms facts names p)
+  pub all_together : HoldTogether axioms facts d.probes lists
   all_together names = (
     λ all p c. subst (ProbeHolds axioms facts names) c.2 ((each c.0 p c.1 names).0 (all c.0 p c.1)),
     λ all k p lt. (each k p lt names).1 (all (get_or d.probes k p) (Contains-get_or d.probes k p lt)),
@@ -145,33 +128,16 @@ over_more limit P Q within more all = record {
 }
 
 -- what a join gives is what a disjunct has
-pub gives_together : (h : Hierarchy) (index : FactRows) (d : Disjunct) (lists : List (List (ℕ × ℕ)))
-    (limit : ℕ) (result : Result Table JoinFault)
-    → AreTogether h index d.probes lists → AreBelow d.vars d.probes → IsSafe d
+pub gives_together : (d : Disjunct) (lists : List (List (ℕ × ℕ))) (limit : ℕ) (result : Result Table JoinFault)
+    → length lists ≡ length d.probes → AreBelow d.vars d.probes → IsSafe d
     → IfOk result (λ t. AreExactly (IsTuple d lists) t.tuples) → IfOk result (λ t. length t.tuples ≤ limit)
     → (result ≡ Err TooMany → AreMoreThan limit (IsTuple d lists))
-    → (axioms : List Axiom) (facts : List Fact) → AreBehind h index axioms facts
+    → (axioms : List Axiom) (facts : List Fact) → HoldTogether axioms facts d.probes lists
     → GivesTuples (HasOverNames axioms facts d) limit result
-gives_together h index d lists limit (Ok t) are few safe exact within more axioms facts behind =
-    (tuples_over d lists axioms facts (are.together axioms facts behind) t.tuples exact, within)
-gives_together h index d lists limit (Err TooMany) are few safe exact within more axioms facts behind =
-    let all = exactly_exists d.vars d lists are.count few safe in
-    let over = tuples_over d lists axioms facts (are.together axioms facts behind) in
-    over_more limit (IsTuple d lists) (HasOverNames axioms facts d)
-    (λ t. (tuple_over d lists axioms facts (are.together axioms facts behind) t).0) (more refl)
-    (all.0, over all.0 all.1)
-gives_together h index d lists limit (Err NoMemory) are few safe exact within more axioms facts behind = tt
-
--- by the whole lists of all probes
-pub gives_tuples : (h : Hierarchy) (index : FactRows) (d : Disjunct) (lists : List (List (ℕ × ℕ)))
-    (limit : ℕ) (result : Result Table JoinFault)
-    → AreListsOf h index d.probes lists → AreBelow d.vars d.probes → IsSafe d
-    → IfOk result (λ t. AreExactly (IsTuple d lists) t.tuples) → IfOk result (λ t. length t.tuples ≤ limit)
-    → (result ≡ Err TooMany → AreMoreThan limit (IsTuple d lists))
-    → (axioms : List Axiom) (facts : List Fact) → AreBehind h index axioms facts
-    → GivesTuples (HasOverNames axioms facts d) limit result
-gives_tuples h index d lists limit result are = gives_together h index d lists limit result (record {
-  count = are.count;
-  sorted = are.sorted;
-  together = λ axioms facts behind. all_together d lists axioms facts (are.each axioms facts behind);
-})
+gives_together d lists limit (Ok t) count few safe exact within more axioms facts together =
+    (tuples_over d lists axioms facts together t.tuples exact, within)
+gives_together d lists limit (Err TooMany) count few safe exact within more axioms facts together =
+    let all = exactly_exists d.vars d lists count few safe in
+    over_more limit (IsTuple d lists) (HasOverNames axioms facts d) (λ t. (tuple_over d lists axioms facts together t).0)
+    (more refl) (all.0, tuples_over d lists axioms facts together all.0 all.1)
+gives_together d lists limit (Err NoMemory) count few safe exact within more axioms facts together = tt

@@ -27,7 +27,6 @@ use Rattle.dl_answer.specs.Facts.{HasPredicate}
 use Rattle.dl_answer.specs.Probes.{AreBehind}
 use Rattle.dl_answer.specs.Replies.{GivesTuples}
 use Rattle.dl_answer.specs.Searches.{FindsTuples}
-use Rattle.dl_answer.specs.declared.index.FactRows.{FactRows}
 use Rattle.dl_answer.proofs.StepLemmas.{exactly_same, over_more}
 use Rattle.dl_answer.proofs.TupleLemmas.{exactly_none}
 use Rattle.dl_answer.proofs.DecidedLemmas.{some_exist}
@@ -50,19 +49,19 @@ gives_same P Q same limit (Err TooMany) g =
 gives_same P Q same limit (Err NoMemory) g = tt
 
 -- what a rewriting gives is what is certain
-pub certain_given : (h : Hierarchy) (index : FactRows) (q : Query) (ds : List Disjunct) (limit : ℕ)
+pub certain_given : (Behind : List Axiom → List Fact → Type 0) (h : Hierarchy) (q : Query) (ds : List Disjunct) (limit : ℕ)
     (result : Result Table JoinFault)
     → ((axioms : List Axiom) → IsHierarchyOf h axioms → HasRolesOf axioms (roles h.predicates) → (facts : List Fact)
     → LinksAreKnown facts (roles h.predicates) → (t : List ℕ)
     → IsCertain axioms facts q t ↔ SomeHasOverNames axioms facts ds t)
-    → ((axioms : List Axiom) (facts : List Fact) → AreBehind h index axioms facts
+    → ((axioms : List Axiom) (facts : List Fact) → Behind axioms facts
     → GivesTuples (SomeHasOverNames axioms facts ds) limit result)
-    → (axioms : List Axiom) (facts : List Fact) → AreBehind h index axioms facts
+    → (axioms : List Axiom) (facts : List Fact) → Behind axioms facts → AreBehind h axioms facts
     → GivesTuples (IsCertain axioms facts q) limit result
-certain_given h index q ds limit result exact gives axioms facts behind =
+certain_given Behind h q ds limit result exact gives axioms facts is behind =
     let same = exact axioms behind.hierarchy behind.has_roles facts (links_of facts h.predicates behind.known) in
     gives_same (SomeHasOverNames axioms facts ds) (IsCertain axioms facts q) (λ t. ((same t).1, (same t).0)) limit result
-    (gives axioms facts behind)
+    (gives axioms facts is)
 
 -- ---- disjuncts in two parts
 
@@ -97,11 +96,11 @@ pub shaped_at : (q : Query) (ds : List Disjunct) → All (IsShapedFor q) ds → 
 shaped_at q ds shaped i d inside is = subst (IsShapedFor q) (sym is) (shaped i d inside)
 
 -- what a search for the tuples of the only disjunct finds
-pub finds_one : (h : Hierarchy) (index : FactRows) (q : Query) (ds : List Disjunct) (d : Disjunct) (limit : ℕ)
+pub finds_one : (Behind : List Axiom → List Fact → Type 0) (q : Query) (ds : List Disjunct) (d : Disjunct) (limit : ℕ)
     (result : Result Table JoinFault) → All (IsShapedFor q) ds → length ds ≡ 1 → d ≡ get_or ds 0 d
-    → FindsTuples (AreBehind h index) (λ axioms facts. HasOverNames axioms facts d) (length d.head) limit result
-    → FindsTuples (AreBehind h index) (λ axioms facts. SomeHasOverNames axioms facts ds) (length q.head) limit result
-finds_one h index q ds d limit result shaped single is finds = record {
+    → FindsTuples Behind (λ axioms facts. HasOverNames axioms facts d) (length d.head) limit result
+    → FindsTuples Behind (λ axioms facts. SomeHasOverNames axioms facts ds) (length q.head) limit result
+finds_one Behind q ds d limit result shaped single is finds = record {
   ascending = finds.ascending;
   width =
       subst (λ n. IfOk result (λ table. table.width ≡ n))
@@ -137,8 +136,8 @@ module _ (ds front back : List Disjunct) (whole : ds ≡ front ++ back) where
         ],
   )
 
-module _ (h : Hierarchy) (index : FactRows) (q : Query) (limit : ℕ) (ds : List Disjunct)
-    (shaped : All (IsShapedFor q) ds) (axioms : List Axiom) (facts : List Fact) (behind : AreBehind h index axioms facts)
+module _ (h : Hierarchy) (q : Query) (limit : ℕ) (ds : List Disjunct)
+    (shaped : All (IsShapedFor q) ds) (axioms : List Axiom) (facts : List Fact) (behind : AreBehind h axioms facts)
   where
     -- where a part has too many tuples, all have
     pub part_over : (part : List Disjunct) → ((d : Disjunct) → Contains part d → Contains ds d) → (e : JoinFault)
@@ -153,7 +152,7 @@ module _ (h : Hierarchy) (index : FactRows) (q : Query) (limit : ℕ) (ds : List
           each = λ k t lt. (over.exact.exact (get_or over.tuples k t)).0 (Contains-get_or over.tuples k t lt);
           longer = over.longer;
         }
-        (some_exist axioms facts h index behind q ds shaped)
+        (some_exist axioms facts h behind q ds shaped)
     part_over part among NoMemory over = tt
 
     module _ (front back : List Disjunct) (whole : ds ≡ front ++ back) (one two : Table)
@@ -182,5 +181,5 @@ module _ (h : Hierarchy) (index : FactRows) (q : Query) (limit : ℕ) (ds : List
           (exactly_same Either (SomeHasOverNames axioms facts ds) either_has all.tuples exact, within)
       both_given (Err TooMany) exact within many =
           over_more limit Either (SomeHasOverNames axioms facts ds) (λ t. (either_has t).0) (many refl)
-          (some_exist axioms facts h index behind q ds shaped)
+          (some_exist axioms facts h behind q ds shaped)
       both_given (Err NoMemory) exact within many = tt

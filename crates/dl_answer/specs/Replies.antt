@@ -12,10 +12,10 @@ use Rattle.dl_terms.specs.Table.{Table}
 use Rattle.dl_join.specs.Tuples.{AreExactly}
 use Rattle.dl_join.specs.declared.fault.JoinFault.{JoinFault}
 use Rattle.dl_join.specs.declared.fault.JoinFault.TheVariants as join
-use Rattle.dl_answer.specs.declared.answer.Answer.{Answer}
-use Rattle.dl_answer.specs.declared.answer.Answer.TheVariants.{Found, Inconsistent}
-use Rattle.dl_answer.specs.declared.fault.AskFault.{AskFault}
-use Rattle.dl_answer.specs.declared.fault.AskFault.TheVariants.{NoPin, TooMany, NoMemory}
+use Rattle.dl_core.specs.declared.answer.Answer.{Answer}
+use Rattle.dl_core.specs.declared.answer.Answer.TheVariants.{Found, Inconsistent}
+use Rattle.dl_core.specs.declared.answer.AskFault.{AskFault}
+use Rattle.dl_core.specs.declared.answer.AskFault.TheVariants.{NoPin, TooMany, NoMemory}
 
 -- the normal form of axioms, as a value
 abbrev pub normal_form : List Axiom → Normal
@@ -35,7 +35,7 @@ version_of (Found version tuples) = version
 version_of (Inconsistent version broken) = version
 
 -- an answer is the defined reply at a version, `TooMany` comes where that is that there are too many, and `NoPin`
--- never
+-- doesn't come
 abbrev pub RepliesTo : List Axiom → List Fact → Option ℕ → Query → (limit version : ℕ)
     → Result Answer AskFault → Type 0
 RepliesTo axioms facts nothing q limit version (Ok answer) =

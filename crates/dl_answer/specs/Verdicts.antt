@@ -11,8 +11,8 @@ use Rattle.dl_terms.specs.declared.axiom.Axiom.{Axiom}
 use Rattle.dl_terms.specs.declared.axiom.Fact.{Fact}
 use Rattle.dl_join.specs.declared.fault.JoinFault.{JoinFault}
 use Rattle.dl_join.specs.declared.fault.JoinFault.TheVariants as join
-use Rattle.dl_answer.specs.declared.fault.AskFault.{AskFault}
-use Rattle.dl_answer.specs.declared.fault.AskFault.TheVariants.{TooMany, NoMemory}
+use Rattle.dl_core.specs.declared.answer.AskFault.{AskFault}
+use Rattle.dl_core.specs.declared.answer.AskFault.TheVariants.{TooMany, NoMemory}
 use Rattle.dl_answer.specs.declared.broken.Verdict.{Verdict}
 use Rattle.dl_answer.specs.declared.broken.Verdict.TheVariants.{Broken, Sound}
 
@@ -40,7 +40,7 @@ abbrev pub Finds : List Axiom → List Fact → Option ℕ → Verdict → Type 
 Finds axioms facts nothing (Broken broken) = IsFirstBroken axioms facts nothing broken
 Finds axioms facts nothing Sound = NothingIsBroken axioms facts nothing
 
--- what a fault of the search for tuples means, at version 1
-abbrev pub fault_of : JoinFault → AskFault
-fault_of join.TooMany = TooMany 1
-fault_of join.NoMemory = NoMemory
+-- what a fault of the search for tuples means, at a version
+abbrev pub fault_of : ℕ → JoinFault → AskFault
+fault_of version join.TooMany = TooMany version
+fault_of version join.NoMemory = NoMemory

@@ -1,11 +1,13 @@
 // The lists of probes, each made once for all probes that ask the same, of one query or of many.
 ghost use Rattle.std.specs.Prelude.{◌≡◌, ◌↔◌, ◌<◌, ◌≤◌, ◌⊎◌, List as Items, length, vec_len, IfOk, IfSome, IsTrue};
 ghost use Rattle.std.specs.List.{All};
+ghost use Rattle.std.specs.List.Sorted.{IsSorted};
 ghost use Rattle.std.specs.declared.option.Option.{Option as Maybe};
-ghost use Rattle.dl_hier.specs.Hierarchy.{Hierarchy};
-ghost use Rattle.dl_answer.specs.Probes.{AsksOneOf, AsksRole, AskAlike, IsListOf};
+ghost use Rattle.dl_terms.specs.declared.axiom.Axiom.{Axiom};
+ghost use Rattle.dl_terms.specs.declared.axiom.Fact.{Fact};
+ghost use Rattle.dl_join.specs.Disjuncts.{pair_cmp, AreSorted};
+ghost use Rattle.dl_answer.specs.Probes.{AsksOneOf, AsksRole, AskAlike, HoldAlike};
 ghost use Rattle.dl_answer.specs.Kept.{IsKept, IsSlotKept, AreKept, AreFirst};
-ghost use Rattle.dl_answer.specs.declared.index.FactRows.{FactRows};
 
 use crate::slots::{Kept, KeptLists};
 use dl_terms::{Base, Basic, List, Pair, Probe, Role};
@@ -19,22 +21,22 @@ const SLOTS: usize = 8192;
 /// How far apart the slots of classes, of roles, of inverse roles and of pairs of a role begin.
 const QUARTER: usize = 2048;
 
-/// How many pairs may be kept for each fact. No list has more than two for each, so lists are let go for want of room
+/// How many pairs may be kept for each row. No list has more than two for each, so lists are let go for want of room
 /// only after as many pairs were listed as any of them has.
-const PAIRS_A_FACT: usize = 4;
+const PAIRS_A_ROW: usize = 4;
 
-/// How many pairs and basic concepts more may be kept, so that few facts don't make the lists go.
+/// How many pairs and basic concepts more may be kept, so that few rows don't make the lists go.
 const ROOM: usize = 1_048_576;
 
 /// How often a list is done without before it is made.
 const WITHOUT: usize = 8;
 
 impl KeptLists {
-    /// No list, and the room for a number of facts.
-    pub(crate) fn new(alloc: Global, facts: usize) -> Result<KeptLists, AllocError>
-        ensures { IfOk result (λ kept. (h : Hierarchy) (index : FactRows) → AreKept h index kept) }
+    /// No list, and the room for a number of rows.
+    pub(crate) fn new(alloc: Global, rows: usize) -> Result<KeptLists, AllocError>
+        ensures { IfOk result (λ kept. (axioms : Items Axiom) (facts : Items Fact) → AreKept axioms facts kept) }
     {
-        let most = facts.saturating_mul(PAIRS_A_FACT).saturating_add(ROOM);
+        let most = rows.saturating_mul(PAIRS_A_ROW).saturating_add(ROOM);
         let slots = empty_slots(alloc)?;
         Ok(KeptLists {
             slots,
@@ -46,9 +48,11 @@ impl KeptLists {
 
     /// Moves the list out that is kept of a probe like this one. Another list in its slot is let go.
     pub(crate) fn take(&mut self, probe: &Probe) -> Option<List<Pair>>
-        ensures kept { (h : Hierarchy) (index : FactRows) → AreKept h index self.old → AreKept h index self.new }
-        ensures list { (h : Hierarchy) (index : FactRows) → AreKept h index self.old
-            → IfSome result (IsListOf h index probe.now) }
+        ensures kept { (axioms : Items Axiom) (facts : Items Fact) → AreKept axioms facts self.old
+            → AreKept axioms facts self.new }
+        ensures list { (axioms : Items Axiom) (facts : Items Fact) → AreKept axioms facts self.old
+            → IfSome result (HoldAlike axioms facts probe.now) }
+        ensures sorted { IfSome result (IsSorted pair_cmp) }
     {
         match self.empty(slot_of(probe)) {
             Some(kept) => pairs_for(kept, probe),
@@ -66,7 +70,8 @@ impl KeptLists {
 
     /// Counts that the list of a probe is asked for. True where it was done without so often that it is to be made.
     pub(crate) fn is_due(&mut self, probe: &Probe) -> bool
-        ensures { (h : Hierarchy) (index : FactRows) → AreKept h index self.old → AreKept h index self.new }
+        ensures { (axioms : Items Axiom) (facts : Items Fact) → AreKept axioms facts self.old
+            → AreKept axioms facts self.new }
     {
         let slot = slot_of(probe);
         if self.without[slot] < WITHOUT {
@@ -85,8 +90,9 @@ impl KeptLists {
         probe: &Probe,
         pairs: List<Pair>,
     ) -> Result<(), AllocError>
-        ensures { (h : Hierarchy) (index : FactRows) → AreKept h index self.old
-            → IsListOf h index probe.now pairs → AreKept h index self.new }
+        requires { IsSorted pair_cmp pairs }
+        ensures { (axioms : Items Axiom) (facts : Items Fact) → AreKept axioms facts self.old
+            → HoldAlike axioms facts probe.now pairs → AreKept axioms facts self.new }
     {
         let slot = slot_of(probe);
         self.empty(slot);
@@ -103,7 +109,8 @@ impl KeptLists {
 
     /// Lets all lists go where there is too little room for a weight.
     fn make_room(&mut self, alloc: Global, weight: usize) -> Result<(), AllocError>
-        ensures { (h : Hierarchy) (index : FactRows) → AreKept h index self.old → AreKept h index self.new }
+        ensures { (axioms : Items Axiom) (facts : Items Fact) → AreKept axioms facts self.old
+            → AreKept axioms facts self.new }
     {
         if weight <= self.room {
             return Ok(());
@@ -116,9 +123,10 @@ impl KeptLists {
     /// Moves out what is in a slot.
     fn empty(&mut self, slot: usize) -> Option<Kept>
         requires { slot < SLOTS }
-        ensures kept { (h : Hierarchy) (index : FactRows) → AreKept h index self.old → AreKept h index self.new }
-        ensures one { (h : Hierarchy) (index : FactRows) → AreKept h index self.old
-            → IfSome result (IsKept h index) }
+        ensures kept { (axioms : Items Axiom) (facts : Items Fact) → AreKept axioms facts self.old
+            → AreKept axioms facts self.new }
+        ensures one { (axioms : Items Axiom) (facts : Items Fact) → AreKept axioms facts self.old
+            → IfSome result (IsKept axioms facts) }
     {
         let kept = mem::replace(&mut self.slots[slot], None);
         self.room = self.room.saturating_add(weight_in(&kept));
@@ -140,8 +148,9 @@ fn empty_slots(alloc: Global) -> Result<Vec<Option<Kept>>, AllocError>
 
 /// The pairs that are kept, where a probe asks for them.
 fn pairs_for(kept: Kept, probe: &Probe) -> Option<List<Pair>>
-    ensures { (h : Hierarchy) (index : FactRows) → IsKept h index kept
-        → IfSome result (IsListOf h index probe.now) }
+    ensures list { (axioms : Items Axiom) (facts : Items Fact) → IsKept axioms facts kept
+        → IfSome result (HoldAlike axioms facts probe.now) }
+    ensures sorted { IfSome result (IsSorted pair_cmp) }
 {
     if ask_alike(&kept.probe, probe) {
         Some(kept.pairs)
@@ -166,9 +175,10 @@ pub(crate) fn keep_all(
     lists: List<List<Pair>>,
     kept: &mut KeptLists,
 ) -> Result<(), AllocError>
-    requires { length lists ≤ length probes.now }
-    ensures { (h : Hierarchy) (index : FactRows) → AreKept h index kept.old
-        → AreFirst h index probes.now lists → AreKept h index kept.new }
+    requires few { length lists ≤ length probes.now }
+    requires sorted { AreSorted lists }
+    ensures { (axioms : Items Axiom) (facts : Items Fact) → AreKept axioms facts kept.old
+        → AreFirst axioms facts probes.now lists → AreKept axioms facts kept.new }
 {
     let mut rest = lists.into_vec();
     while let Some(pairs) = rest.pop() {
@@ -183,9 +193,11 @@ pub(crate) fn earlier<'a>(
     lists: &'a [List<Pair>],
     probe: &Probe,
 ) -> Option<&'a [Pair]>
-    requires { length lists.now ≤ length probes.now }
-    ensures { (h : Hierarchy) (index : FactRows) → AreFirst h index probes.now lists.now
-        → IfSome result (λ pairs. IsListOf h index probe.now pairs.now) }
+    requires few { length lists.now ≤ length probes.now }
+    requires sorted { AreSorted lists.now }
+    ensures list { (axioms : Items Axiom) (facts : Items Fact) → AreFirst axioms facts probes.now lists.now
+        → IfSome result (λ pairs. HoldAlike axioms facts probe.now pairs.now) }
+    ensures sorted { IfSome result (λ pairs. IsSorted pair_cmp pairs.now) }
 {
     for (k, pairs) in lists.iter().enumerate() {
         if ask_alike(&probes[k], probe) {

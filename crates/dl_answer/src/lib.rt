@@ -1,22 +1,15 @@
-// Certain answers of conjunctive queries over axioms and facts, as the defined reply.
+// Certain answers of conjunctive queries at the version that a reader has pinned, as the defined reply.
 #![tactic(auto)]
 
-mod answer;
 mod asked;
 mod broken;
 mod certain;
-mod facts;
-mod fault;
-mod index;
 mod kept;
-mod known;
 mod pairs;
 mod probes;
 mod sizes;
 mod slots;
 mod uneven;
 
-pub use answer::Answer;
-pub use asked::ask_facts;
-pub use fault::AskFault;
-pub use known::has_predicates;
+pub use asked::ask;
+pub use dl_core::{Answer, AskFault};

@@ -1,22 +1,25 @@
 // The lists of the pairs of probes, and the tuples of a disjunct over them.
 ghost use Rattle.std.specs.Prelude.{◌≡◌, ◌<◌, ◌≤◌, ◌^◌, ◌⊎◌, ◌↔◌, List as Items, [], length, IfOk, IsTrue};
 ghost use Rattle.std.specs.List.{Any};
+ghost use Rattle.std.specs.List.Sorted.{IsSorted};
 ghost use Rattle.dl_terms.specs.Roles.{named};
 ghost use Rattle.dl_terms.specs.declared.axiom.Axiom.{Axiom};
+ghost use Rattle.dl_terms.specs.declared.axiom.Fact.{Fact};
 ghost use Rattle.dl_hier.specs.Hierarchy.{IsHierarchyOf};
-ghost use Rattle.dl_join.specs.Disjuncts.{IsSafe, AreSorted};
+ghost use Rattle.dl_join.specs.Disjuncts.{pair_cmp, IsSafe, AreSorted};
 ghost use Rattle.dl_rewrite.specs.OverNames.{HasOverNames};
 ghost use Rattle.dl_answer.specs.OverNames.{AreBelow};
-ghost use Rattle.dl_answer.specs.Probes.{AreBelowProbe, AreBehind, IsListOf};
+ghost use Rattle.dl_answer.specs.Readers.{HasFacts, HasFetched};
+ghost use Rattle.dl_answer.specs.Probes.{AreBehind, AreBelowProbe, HoldAlike, IsListOf};
 ghost use Rattle.dl_answer.specs.Kept.{AreKept, AreFirst};
 ghost use Rattle.dl_answer.specs.Sifted.{AreOfOneTerm};
-ghost use Rattle.dl_answer.specs.Searches.{FindsTuples, AreBehindFirst};
+ghost use Rattle.dl_answer.specs.Searches.{AreRead, AreFirstLists, FindsTuples, GoesOn};
 
-use crate::index::FactRows;
 use crate::kept::{copy_of, earlier, keep_all};
 use crate::pairs::pairs_below;
 use crate::slots::KeptLists;
 use crate::uneven::{Fewer, lists_by_fewer, which_has_fewer};
+use dl_core::Reads;
 use dl_hier::{Below, Hier};
 use dl_join::{JoinFault, join};
 use dl_terms::{Base, Disjunct, List, NoMemory, Pair, Probe, Role, Tuples};
@@ -24,10 +27,11 @@ use std::alloc::Global;
 
 /// The tuples of a disjunct over names, each once, ascending. `TooMany` comes exactly where they are more than the
 /// limit. Lists that are kept of its probes are lent by moving them, and those that are made anew are kept after it.
-pub(crate) fn tuples_of(
+pub(crate) fn tuples_of<R: Reads>(
     alloc: Global,
     hier: &Hier,
-    facts: &FactRows,
+    reads: &mut R,
+    version: u32,
     disjunct: &Disjunct,
     kept: &mut KeptLists,
     limit: u64,
@@ -35,22 +39,24 @@ pub(crate) fn tuples_of(
     requires safe { IsSafe disjunct.now }
     requires variables { AreBelow disjunct.now.vars disjunct.now.probes }
     requires width { length disjunct.now.head < 2 ^ 32 }
-    requires kept { AreKept hier.now facts.now kept.old }
-    ensures kept { AreKept hier.now facts.now kept.new }
-    ensures found { FindsTuples (AreBehind hier.now facts.now)
+    requires pin { (R.reader reads.old).pin ≡ Some version }
+    ensures goes { GoesOn version hier.now (R.stands reads.old) (R.reader reads.old) kept.old
+        (R.stands reads.new) (R.reader reads.new) kept.new }
+    ensures found { FindsTuples (AreRead (R.stands reads.old) version hier.now kept.old)
         (λ axioms known. HasOverNames axioms known disjunct.now) (length disjunct.now.head) limit result }
 {
-    match which_has_fewer(alloc, hier, facts, disjunct.probes.as_slice(), kept)? {
-        Some(first) => tuples_by_fewer(alloc, hier, facts, disjunct, first, kept, limit),
-        None => tuples_by_all(alloc, hier, facts, disjunct, kept, limit),
+    match which_has_fewer(alloc, hier, reads, disjunct.probes.as_slice(), kept)? {
+        Some(first) => tuples_by_fewer(alloc, hier, reads, version, disjunct, first, kept, limit),
+        None => tuples_by_all(alloc, hier, reads, version, disjunct, kept, limit),
     }
 }
 
 /// The tuples of a disjunct of two probes of one term, of which one has far fewer pairs than the other.
-fn tuples_by_fewer(
+fn tuples_by_fewer<R: Reads>(
     alloc: Global,
     hier: &Hier,
-    facts: &FactRows,
+    reads: &mut R,
+    version: u32,
     disjunct: &Disjunct,
     first: Fewer,
     kept: &mut KeptLists,
@@ -60,21 +66,23 @@ fn tuples_by_fewer(
     requires safe { IsSafe disjunct.now }
     requires variables { AreBelow disjunct.now.vars disjunct.now.probes }
     requires width { length disjunct.now.head < 2 ^ 32 }
-    requires kept { AreKept hier.now facts.now kept.old }
-    ensures kept { AreKept hier.now facts.now kept.new }
-    ensures found { FindsTuples (AreBehind hier.now facts.now)
+    requires pin { (R.reader reads.old).pin ≡ Some version }
+    ensures goes { GoesOn version hier.now (R.stands reads.old) (R.reader reads.old) kept.old
+        (R.stands reads.new) (R.reader reads.new) kept.new }
+    ensures found { FindsTuples (AreRead (R.stands reads.old) version hier.now kept.old)
         (λ axioms known. HasOverNames axioms known disjunct.now) (length disjunct.now.head) limit result }
 {
     let probes = disjunct.probes.as_slice();
-    let lists = lists_by_fewer(alloc, hier, facts, probes, first, kept)?;
+    let lists = lists_by_fewer(alloc, hier, reads, version, probes, first, kept)?;
     join(alloc, disjunct, lists.as_slice(), limit)
 }
 
 /// The tuples of a disjunct by the whole lists of its probes.
-fn tuples_by_all(
+fn tuples_by_all<R: Reads>(
     alloc: Global,
     hier: &Hier,
-    facts: &FactRows,
+    reads: &mut R,
+    version: u32,
     disjunct: &Disjunct,
     kept: &mut KeptLists,
     limit: u64,
@@ -82,13 +90,14 @@ fn tuples_by_all(
     requires safe { IsSafe disjunct.now }
     requires variables { AreBelow disjunct.now.vars disjunct.now.probes }
     requires width { length disjunct.now.head < 2 ^ 32 }
-    requires kept { AreKept hier.now facts.now kept.old }
-    ensures kept { AreKept hier.now facts.now kept.new }
-    ensures found { FindsTuples (AreBehind hier.now facts.now)
+    requires pin { (R.reader reads.old).pin ≡ Some version }
+    ensures goes { GoesOn version hier.now (R.stands reads.old) (R.reader reads.old) kept.old
+        (R.stands reads.new) (R.reader reads.new) kept.new }
+    ensures found { FindsTuples (AreRead (R.stands reads.old) version hier.now kept.old)
         (λ axioms known. HasOverNames axioms known disjunct.now) (length disjunct.now.head) limit result }
 {
     let probes = disjunct.probes.as_slice();
-    let lists = lists_of(alloc, hier, facts, probes, kept)?;
+    let lists = lists_of(alloc, hier, reads, version, probes, kept)?;
     let tuples = tuples_over(alloc, disjunct, lists.as_slice(), limit);
     keep_all(alloc, probes, lists, kept)?;
     tuples
@@ -107,7 +116,7 @@ fn tuples_over(
     requires few { length lists.now ≤ length disjunct.now.probes }
     requires whole { Any (λ pairs. pairs ≡ []) lists.now ⊎ (length lists.now ≡ length disjunct.now.probes) }
     requires sorted { AreSorted lists.now }
-    ensures { FindsTuples (AreBehindFirst disjunct.now.probes lists.now)
+    ensures { FindsTuples (λ axioms facts. AreFirst axioms facts disjunct.now.probes lists.now)
         (λ axioms known. HasOverNames axioms known disjunct.now) (length disjunct.now.head) limit result }
 {
     if some_is_empty(lists) {
@@ -135,23 +144,34 @@ fn is_empty(pairs: &List<Pair>) -> bool
 }
 
 /// One sorted list of pairs for each probe up to the first that has no pair: nothing is listed behind it.
-fn lists_of(
+fn lists_of<R: Reads>(
     alloc: Global,
     hier: &Hier,
-    facts: &FactRows,
+    reads: &mut R,
+    version: u32,
     probes: &[Probe],
     kept: &mut KeptLists,
 ) -> Result<List<List<Pair>>, NoMemory>
-    requires kept { AreKept hier.now facts.now kept.old }
-    ensures kept { AreKept hier.now facts.now kept.new }
+    requires pin { (R.reader reads.old).pin ≡ Some version }
+    ensures goes { GoesOn version hier.now (R.stands reads.old) (R.reader reads.old) kept.old
+        (R.stands reads.new) (R.reader reads.new) kept.new }
     ensures few { IfOk result (λ lists. length lists ≤ length probes.now) }
     ensures whole { IfOk result (λ lists.
         Any (λ pairs. pairs ≡ []) lists ⊎ (length lists ≡ length probes.now)) }
-    ensures lists { IfOk result (AreFirst hier.now facts.now probes.now) }
+    ensures lists { IfOk result (AreFirstLists (AreRead (R.stands reads.old) version hier.now kept.old) probes.now) }
 {
     let mut lists = List::new(alloc);
     for probe in probes {
-        let pairs = shared_list(alloc, hier, facts, probe, probes, lists.as_slice(), kept)?;
+        let pairs = shared_list(
+            alloc,
+            hier,
+            reads,
+            version,
+            probe,
+            probes,
+            lists.as_slice(),
+            kept,
+        )?;
         let none = is_empty(&pairs);
         lists.push(pairs)?;
         if none {
@@ -163,56 +183,65 @@ fn lists_of(
 
 /// The sorted list of the pairs of a probe, with the lists of some probes before it: a copy of the list of one of these
 /// that asks the same, the one that is kept, or a new one.
-fn shared_list(
+fn shared_list<R: Reads>(
     alloc: Global,
     hier: &Hier,
-    facts: &FactRows,
+    reads: &mut R,
+    version: u32,
     probe: &Probe,
     before: &[Probe],
     lists: &[List<Pair>],
     kept: &mut KeptLists,
 ) -> Result<List<Pair>, NoMemory>
-    requires lists { AreFirst hier.now facts.now before.now lists.now }
     requires few { length lists.now ≤ length before.now }
-    requires kept { AreKept hier.now facts.now kept.old }
-    ensures kept { AreKept hier.now facts.now kept.new }
-    ensures list { IfOk result (IsListOf hier.now facts.now probe.now) }
+    requires sorted { AreSorted lists.now }
+    requires pin { (R.reader reads.old).pin ≡ Some version }
+    ensures goes { GoesOn version hier.now (R.stands reads.old) (R.reader reads.old) kept.old
+        (R.stands reads.new) (R.reader reads.new) kept.new }
+    ensures list { IfOk result (IsListOf (λ axioms facts. AreFirst axioms facts before.now lists.now
+        × AreRead (R.stands reads.old) version hier.now kept.old axioms facts) probe.now) }
 {
     if let Some(pairs) = earlier(before, lists, probe) {
         return Ok(copy_of(alloc, pairs)?);
     }
-    kept_or_made(alloc, hier, facts, probe, kept)
+    kept_or_made(alloc, hier, reads, version, probe, kept)
 }
 
 /// The sorted list of the pairs of a probe: the one that is kept, or a new one.
-pub(crate) fn kept_or_made(
+pub(crate) fn kept_or_made<R: Reads>(
     alloc: Global,
     hier: &Hier,
-    facts: &FactRows,
+    reads: &mut R,
+    version: u32,
     probe: &Probe,
     kept: &mut KeptLists,
 ) -> Result<List<Pair>, NoMemory>
-    requires kept { AreKept hier.now facts.now kept.old }
-    ensures kept { AreKept hier.now facts.now kept.new }
-    ensures list { IfOk result (IsListOf hier.now facts.now probe.now) }
+    requires pin { (R.reader reads.old).pin ≡ Some version }
+    ensures goes { GoesOn version hier.now (R.stands reads.old) (R.reader reads.old) kept.old
+        (R.stands reads.new) (R.reader reads.new) kept.new }
+    ensures list { IfOk result (IsListOf (AreRead (R.stands reads.old) version hier.now kept.old) probe.now) }
 {
     match kept.take(probe) {
         Some(pairs) => Ok(pairs),
-        None => list_of(alloc, hier, facts, probe),
+        None => list_of(alloc, hier, reads, version, probe),
     }
 }
 
 /// The sorted list of the pairs of a probe.
-fn list_of(
+fn list_of<R: Reads>(
     alloc: Global,
     hier: &Hier,
-    facts: &FactRows,
+    reads: &mut R,
+    version: u32,
     probe: &Probe,
 ) -> Result<List<Pair>, NoMemory>
-    ensures { IfOk result (IsListOf hier.now facts.now probe.now) }
+    requires pin { (R.reader reads.old).pin ≡ Some version }
+    ensures fetched { HasFetched (R.stands reads.old) (R.reader reads.old) (R.stands reads.new) (R.reader reads.new) }
+    ensures list { IfOk result (IsListOf (λ axioms facts. HasFacts (R.stands reads.old) version facts
+        × AreBehind hier.now axioms facts) probe.now) }
 {
     let below = below_of(alloc, hier, probe)?;
-    pairs_below(alloc, facts, below)
+    pairs_below(alloc, reads, version, below)
 }
 
 /// The predicates below the basic concepts or the role of a probe.

@@ -1,7 +1,7 @@
-// How many pairs a probe has at most, which only decides how they are looked for.
-use crate::index::FactRows;
+// About how many pairs a probe has, which only decides how they are looked for. Nothing is fetched for it.
 use crate::probes::below_of;
 use crate::slots::KeptLists;
+use dl_core::Reads;
 use dl_epoch::Ranges;
 use dl_hier::Hier;
 use dl_intervals::Intervals;
@@ -9,34 +9,35 @@ use dl_row::{Kind, PlainShard, Row};
 use dl_terms::{NoMemory, Probe};
 use std::alloc::Global;
 
-/// The length of the list that is kept of a probe, or else how many rows are below it.
-pub(crate) fn size_of(
+/// The length of the list that is kept of a probe, or else about how many rows are below it.
+pub(crate) fn size_of<R: Reads>(
     alloc: Global,
     hier: &Hier,
-    facts: &FactRows,
+    reads: &R,
     probe: &Probe,
     kept: &KeptLists,
 ) -> Result<usize, NoMemory> {
     match kept.size(probe) {
         Some(size) => Ok(size),
-        None => rows_below(alloc, hier, facts, probe),
+        None => rows_below(alloc, hier, reads, probe),
     }
 }
 
-/// How many rows are below a probe, those among them that no version sees any more.
-fn rows_below(
+/// How many rows are about below a probe: as many in each shard as in the one that was fetched last, those among them
+/// that the version doesn't see.
+fn rows_below<R: Reads>(
     alloc: Global,
     hier: &Hier,
-    facts: &FactRows,
+    reads: &R,
     probe: &Probe,
 ) -> Result<usize, NoMemory> {
     let below = below_of(alloc, hier, probe)?;
     let mut count = 0usize;
-    for entry in facts.epochs.entries() {
+    for entry in reads.book().epochs.entries() {
         let ranges = entry.epoch.translate(alloc, &below)?;
-        count = count.saturating_add(rows_of_ranges(&facts.shard, entry.epoch.id(), &ranges));
+        count = count.saturating_add(rows_of_ranges(reads.shard(), entry.epoch.id(), &ranges));
     }
-    Ok(count)
+    Ok(count.saturating_mul(reads.shards() as usize))
 }
 
 fn rows_of_ranges(shard: &PlainShard, epoch: u32, ranges: &Ranges) -> usize {

@@ -1,5 +1,7 @@
 // Slots for the lists of probes.
 ghost use Rattle.std.specs.Prelude.{◌≡◌, vec_len};
+ghost use Rattle.std.specs.List.Sorted.{IsSorted};
+ghost use Rattle.dl_join.specs.Disjuncts.{pair_cmp};
 
 use dl_terms::{List, Pair, Probe};
 
@@ -8,6 +10,7 @@ use dl_terms::{List, Pair, Probe};
 pub(crate) struct Kept {
     pub probe: Probe,
     pub pairs: List<Pair>,
+    ghost sorted: { IsSorted pair_cmp pairs },
 }
 
 /// Lists of probes. What a probe asks decides the slot of its list, and a slot has one list at most. Where a list

@@ -8,6 +8,7 @@ use Rattle.dl_terms.specs.declared.axiom.Axiom.{Axiom}
 use Rattle.dl_terms.specs.declared.query.Query.{Query}
 use Rattle.dl_terms.proofs.AnswerLemmas.{IsReply-unique}
 use Rattle.dl_run.specs.Answered.{status_of, text_of, RepliesTo}
+use Rattle.dl_run.specs.Answered.IsUnanswered.{over_load, over_limit as answers_over}
 use Rattle.dl_run.specs.Asked.{Gives}
 use Rattle.dl_run.specs.Defined.{IsRefused, AnswerPrints, AnswerOf, Prints, IsUnbuilt}
 use Rattle.dl_run.specs.Defined.IsRefused.{wrong, over_limit}
@@ -19,10 +20,10 @@ use Rattle.dl_run.specs.Files.{IsFileStop}
 use Rattle.dl_run.specs.Input.{Load, IsFirstTooLong, AreInput}
 use Rattle.dl_run.specs.Output.{facts_line, answers_text, broken_text, inconsistent_text}
 use Rattle.dl_run.specs.Refusals.{refusal_text}
-use Rattle.dl_run.specs.Limits.{IsWithinLimits}
+use Rattle.dl_run.specs.Store.{IsWithinLimits}
 use Rattle.dl_run.specs.Words.{Form, answer, HasForm, AskFor}
 use Rattle.dl_run.specs.Wrong.{IsFirstWrong}
-use Rattle.dl_run.specs.Wrong.IsFirstWrong.{too_long}
+use Rattle.dl_run.specs.Wrong.IsFirstWrong.{too_long, in_load}
 use Rattle.dl_run.specs.declared.answer.Answers.{Answers}
 use Rattle.dl_run.specs.declared.told.Told.{Told}
 use Rattle.dl_run.specs.declared.told.Told.TheVariants.{Found, Inconsistent}
@@ -204,17 +205,21 @@ module _ (o d q : List ℕ) (limit : ℕ) (told : Option (List ℕ → List ℕ)
     says_stop stops.ReadFault output is first = absurd first
     says_stop stops.NoMemory output is first = rw is no_memory
 
-    -- the answers to what the files ask, or that they are too many
-    pub says_replies : (load : Load) (asked : Query) → AreInput x y z load asked → IsWithinLimits load
-        → (output : Result Answers Stop) → RepliesTo load asked limit output → Says (AnswerOf o d q limit) told Rose (status_of output) (text_of output)
-    says_replies load asked input served (Ok given) replies =
-        done (if_some told (λ file_of input. rw (replies.1, replies.2, replies.3) (prints_told load asked input served given.told replies.0))
-        (at_files told o d q (λ x y z. AreInput x y z load asked) ex ey ez input))
-    says_replies load asked input served (Err (stops.Refused refusal)) replies =
-        stopped (if_some told (λ file_of input. rw replies.0 (refused (over_limit input served replies.1)))
-        (at_files told o d q (λ x y z. AreInput x y z load asked) ex ey ez input))
-    says_replies load asked input served (Err stops.ReadFault) replies = absurd replies
-    says_replies load asked input served (Err stops.NoMemory) replies = no_memory
+    -- the answers to what the files ask, or why there are none
+    module _ (load : Load) (asked : Query) (input : AreInput x y z load asked) where
+      input_told : IfSome told (λ file_of. AreInput (file_of o) (file_of d) (file_of q) load asked)
+      input_told = at_files told o d q (λ x y z. AreInput x y z load asked) ex ey ez input
+
+      pub says_replies : (output : Result Answers Stop) → RepliesTo load asked limit output
+          → Says (AnswerOf o d q limit) told Rose (status_of output) (text_of output)
+      says_replies (Ok given) replies =
+          done (if_some told (λ file_of there. rw (replies.2, replies.3, replies.4) (prints_told load asked there replies.0 given.told replies.1)) input_told)
+      says_replies (Err (stops.Refused refusal)) (over_load passes) =
+          stopped (if_some told (λ file_of there. refused (wrong (in_load there passes))) input_told)
+      says_replies (Err (stops.Refused refusal)) (answers_over within reply) =
+          stopped (if_some told (λ file_of there. refused (over_limit there within reply)) input_told)
+      says_replies (Err stops.ReadFault) replies = absurd replies
+      says_replies (Err stops.NoMemory) replies = no_memory
 
 -- a file that was read is not too long
 fits_told : (told : Option (List ℕ → List ℕ)) (name bytes : List ℕ) → IfSome told (λ file_of. bytes ≡ file_of name) → length bytes ≤ max_bytes

@@ -1,7 +1,7 @@
 pub mod OptionLemmas
 pub mod WordLemmas
 pub mod SignatureLemmas
-pub mod LimitLemmas
+pub mod StoreLemmas
 pub mod NamedLemmas
 pub mod InputLemmas
 pub mod WrongLemmas

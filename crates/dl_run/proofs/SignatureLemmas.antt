@@ -1,23 +1,14 @@
 -- A signature has the names of the axioms and of the facts.
-use Rattle.std.proofs.Common.{ℕ, List, [], ◌∷◌, ◌++◌, flat_map, All, Contains, refl, arith}
-use Rattle.std.proofs.lemmas.List.Elements.{All-nil, All-cons, All-head, All-tail, All-weaker, All-contains_itself, Contains-append_left, Contains-append_right}
+use Rattle.std.proofs.Common.{ℕ, List, ◌++◌, flat_map, All, Contains, refl, arith}
+use Rattle.std.proofs.lemmas.List.Elements.{All-weaker, All-contains_itself, Contains-append_left, Contains-append_right}
 use Rattle.std.proofs.lemmas.Map.Keys.{IsStrictlyIncreasing-from_sorted}
-use Rattle.dl_terms.specs.declared.role.Base.{Base}
-use Rattle.dl_terms.specs.declared.role.Base.TheVariants.{Named, Filler}
-use Rattle.dl_terms.specs.declared.role.Role.{Role}
-use Rattle.dl_terms.specs.declared.role.Basic.{Basic}
-use Rattle.dl_terms.specs.declared.role.Basic.TheVariants as basic
-use Rattle.dl_terms.specs.declared.axiom.Part.{Part}
-use Rattle.dl_terms.specs.declared.axiom.Part.TheVariants as part
 use Rattle.dl_terms.specs.declared.axiom.Axiom.{Axiom}
-use Rattle.dl_terms.specs.declared.axiom.Axiom.TheVariants.{SubClass, EquivalentClasses, DisjointClasses, SubRole, EquivalentRoles, DisjointRoles, InverseRoles, Domain, Range, Symmetric, Asymmetric, Irreflexive}
 use Rattle.dl_terms.specs.declared.axiom.Fact.{Fact}
 use Rattle.dl_terms.specs.declared.axiom.Fact.TheVariants as fact
 use Rattle.dl_terms.specs.declared.axiom.Signature.{Signature}
-use Rattle.dl_hier.specs.Rows.{IsNamedIn}
 use Rattle.dl_hier.proofs.MemberLemmas.{Contains-flat_map_of}
 use Rattle.dl_epoch.specs.Known.{IsSignature, IsAxiomIn}
-use Rattle.dl_answer.specs.Facts.{HasPredicate, HasPredicates}
+use Rattle.dl_core.specs.Loading.{IsFactIn}
 use Rattle.dl_epoch.specs.Predicates.{axiom_classes, axiom_properties, fact_classes, fact_properties}
 use Rattle.dl_epoch.proofs.PredicateLemmas.{two_give, axiom_is_in}
 use Rattle.dl_run.specs.Signature.{IsSignatureOf}
@@ -60,7 +51,7 @@ module _ (axioms : List Axiom) (facts : List Fact) (classes roles : List ℕ) (s
     roles = IsStrictlyIncreasing-from_sorted signature.roles is.roles_are.ascending;
   }
 
-  fact_in : (f : Fact) → Contains facts f → HasPredicate signature.classes signature.roles f
+  fact_in : (f : Fact) → Contains facts f → IsFactIn signature f
   fact_in (fact.Is c a) h =
       class_in c
       (Contains-append_right (classes ++ flat_map axiom_classes axioms) (flat_map fact_classes facts) c
@@ -70,6 +61,5 @@ module _ (axioms : List Axiom) (facts : List Fact) (classes roles : List ℕ) (s
       (Contains-append_right (roles ++ flat_map axiom_properties axioms) (flat_map fact_properties facts) p
       (Contains-flat_map_of fact_properties facts (fact.Link p a b) p h (0, omega arith, refl)))
 
-  pub has_predicates : HasPredicates signature facts
-  has_predicates =
-      All-weaker (Contains facts) (HasPredicate signature.classes signature.roles) fact_in facts (All-contains_itself facts)
+  pub facts_known : All (IsFactIn signature) facts
+  facts_known = All-weaker (Contains facts) (IsFactIn signature) fact_in facts (All-contains_itself facts)

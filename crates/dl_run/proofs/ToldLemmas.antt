@@ -1,17 +1,19 @@
 -- From an answer to what is told of it.
-use Rattle.std.proofs.Common.{◌≡◌, ℕ, Result, Ok, Err, subst}
+use Rattle.std.proofs.Common.{◌≡◌, ℕ, Result, Ok, Err, subst, sym}
 use Rattle.std.specs.declared.option.Option.{Option}
 use Rattle.dl_terms.specs.Reply.{IsReply, found, inconsistent, too_many}
 use Rattle.dl_terms.specs.Table.{Table}
 use Rattle.dl_terms.specs.declared.axiom.Axiom.{Axiom}
 use Rattle.dl_terms.specs.declared.query.Query.{Query}
-use Rattle.dl_answer.specs.declared.answer.Answer.{Answer}
-use Rattle.dl_answer.specs.declared.answer.Answer.TheVariants.{Found, Inconsistent}
-use Rattle.dl_answer.specs.declared.fault.AskFault.{AskFault}
-use Rattle.dl_answer.specs.declared.fault.AskFault.TheVariants as fault
-use Rattle.dl_run.specs.Answered.{AreTold, RepliesTo}
+use Rattle.dl_core.specs.declared.answer.Answer.{Answer}
+use Rattle.dl_core.specs.declared.answer.Answer.TheVariants.{Found, Inconsistent}
+use Rattle.dl_core.specs.declared.answer.AskFault.{AskFault}
+use Rattle.dl_core.specs.declared.answer.AskFault.TheVariants as fault
+use Rattle.dl_run.specs.Answered.{AreTold, IsUnanswered, RepliesTo}
+use Rattle.dl_run.specs.Answered.IsUnanswered.{over_limit}
 use Rattle.dl_run.specs.Asked.{AnswersAsked}
 use Rattle.dl_run.specs.Input.{Load}
+use Rattle.dl_run.specs.Store.{IsWithinLimits}
 use Rattle.dl_run.specs.declared.answer.Answers.{Answers}
 use Rattle.dl_run.specs.declared.answer.Asked.{Asked}
 use Rattle.dl_run.specs.declared.stop.Stop.{Stop}
@@ -40,10 +42,10 @@ module _ (load : Load) (asked : Query) (limit : ℕ) (stop : Stop) where
   memory_told r is made = rw (is, made) tt
 
   -- and what stops telling stops answering
-  pub stop_told : (r : Result Answers Stop) → r ≡ Err stop → AreTold load asked limit (Err stop) → RepliesTo load asked limit r
-  stop_told r is told = rw is (by stop told)
+  pub stop_told : IsWithinLimits load → (r : Result Answers Stop) → r ≡ Err stop → AreTold load asked limit (Err stop) → RepliesTo load asked limit r
+  stop_told within r is told = rw is (by stop told)
     where
       by : (stop : Stop) → AreTold load asked limit (Err stop) → RepliesTo load asked limit (Err stop)
-      by (Refused refusal) told = told
+      by (Refused refusal) told = subst (IsUnanswered load asked limit) (sym told.0) (over_limit within told.1)
       by ReadFault told = absurd told
       by NoMemory told = tt

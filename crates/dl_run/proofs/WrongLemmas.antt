@@ -19,12 +19,12 @@ use Rattle.dl_query.specs.declared.fault.QueryFault.{QueryFault}
 use Rattle.dl_query.specs.declared.fault.QueryFault.TheVariants as query
 use Rattle.dl_query.specs.Queries.{IsValue, HasFault}
 use Rattle.dl_query.proofs.ResultLemmas.{fault-one, not-both}
-use Rattle.dl_run.specs.Asked.{Gives, IsJudged, IsMade, IsNumbered, load_of}
+use Rattle.dl_run.specs.Asked.{Gives, IsMade, IsNumbered}
 use Rattle.dl_run.specs.Input.{Load, IsFirstTooLong, AllFit, AreRead, AreInput}
 use Rattle.dl_run.specs.Input.IsFirstTooLong.{ontology_is, data_is, query_is}
-use Rattle.dl_run.specs.Limits.{IsWithinLimits}
 use Rattle.dl_run.specs.Stops.{stop_of_ontology, stop_of_data, stop_of_query}
-use Rattle.dl_run.specs.Wrong.{IsLoadWrong, IsFirstWrong}
+use Rattle.dl_run.specs.Store.{IsWithinLimits, IsLoadWrong}
+use Rattle.dl_run.specs.Wrong.{IsFirstWrong}
 use Rattle.dl_run.specs.Wrong.IsFirstWrong.{too_long, in_ontology, in_data, in_query, in_load}
 use Rattle.dl_run.specs.declared.answer.Asked.{Asked}
 use Rattle.dl_run.specs.declared.stop.InputFile.{InputFile}
@@ -33,7 +33,7 @@ use Rattle.dl_run.specs.declared.stop.Refusal.TheVariants.{TooLong}
 use Rattle.dl_run.specs.declared.stop.Stop.{Stop}
 use Rattle.dl_run.specs.declared.stop.Stop.TheVariants.{Refused, ReadFault, NoMemory}
 use Rattle.dl_run.proofs.InputLemmas.{AreRead-unique, AreInput-unique, input_from}
-use Rattle.dl_run.proofs.LimitLemmas.{one_load_wrong, wrong_or_within}
+use Rattle.dl_run.proofs.StoreLemmas.{one_load_wrong, wrong_or_within}
 
 same_refusal : {one two : Refusal} (a b : Stop) → a ≡ Refused one → b ≡ Refused two → a ≡ b → one ≡ two
 same_refusal a b x y z = cc
@@ -196,13 +196,5 @@ memory_stops o d q stop r is made = rw (is, made) tt
 module _ (o d q : List ℕ) (document : Document) (listed : Triples) (before met : List Text) (read : Query) (asked : Asked)
     (are : AreRead o d q document listed.facts listed.skipped before) (value : IsValue q before read met)
     (numbered : IsNumbered met document listed read asked) where
-  pub gives_asked : IsWithinLimits (load_of asked) → IsMade asked → Gives o d q (Ok asked)
-  gives_asked limits made = (input_from o d q document listed before met read asked are value numbered, limits, made)
-
-  pub gives_stop : (stop : Stop) (r : Result Asked Stop) → r ≡ Err stop → IsJudged asked (Err stop) → Gives o d q r
-  gives_stop stop r is judged = rw is (by stop judged)
-    where
-      by : (stop : Stop) → IsJudged asked (Err stop) → Gives o d q (Err stop)
-      by (Refused refusal) judged = in_load (input_from o d q document listed before met read asked are value numbered) judged
-      by ReadFault judged = absurd judged
-      by NoMemory judged = tt
+  pub gives_asked : IsMade asked → Gives o d q (Ok asked)
+  gives_asked made = (input_from o d q document listed before met read asked are value numbered, made)

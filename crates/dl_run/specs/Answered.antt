@@ -3,6 +3,8 @@ use Rattle.std.specs.Prelude.{ℕ, ◌≡◌, List, ◌++◌, length, Result, Ok
 use Rattle.dl_terms.specs.Reply.{IsReply, too_many}
 use Rattle.dl_terms.specs.declared.query.Query.{Query}
 use Rattle.dl_run.specs.Input.{Load}
+use Rattle.dl_run.specs.Store.{IsWithinLimits, IsLoadWrong}
+use Rattle.dl_run.specs.declared.stop.Refusal.{Refusal}
 use Rattle.dl_run.specs.declared.stop.Refusal.TheVariants.{TooMany}
 use Rattle.dl_run.specs.declared.answer.Answers.{Answers}
 use Rattle.dl_run.specs.declared.told.Told.{Told}
@@ -42,12 +44,17 @@ AreTold load asked limit (Err (Refused refusal)) =
 AreTold load asked limit (Err ReadFault) = ⊥
 AreTold load asked limit (Err NoMemory) = Unit {0}
 
--- the answers to a query over a load or what is broken, that there are more than the limit, or want of memory
+-- why a query over a load isn't answered: a limit that the load passes, or more answers than the limit
+pub data IsUnanswered (load : Load) (asked : Query) (limit : ℕ) : Refusal → Type 0 where
+  over_load : {refusal : Refusal} → IsLoadWrong load refusal → IsUnanswered load asked limit refusal
+  over_limit : IsWithinLimits load → IsReply load.axioms load.facts load.nothing asked limit too_many
+      → IsUnanswered load asked limit (TooMany limit)
+
+-- the answers to a query over a load or what is broken, why it isn't answered, or want of memory
 abbrev pub RepliesTo : Load → Query → ℕ → Result Answers Stop → Type 0
 RepliesTo load asked limit (Ok answers) =
-    Tells load.names (IsReply load.axioms load.facts load.nothing asked limit) answers.told
+    IsWithinLimits load × Tells load.names (IsReply load.axioms load.facts load.nothing asked limit) answers.told
     × (answers.names ≡ load.names) × (answers.facts ≡ length load.facts) × (answers.skipped ≡ load.skipped)
-RepliesTo load asked limit (Err (Refused refusal)) =
-    (refusal ≡ TooMany limit) × IsReply load.axioms load.facts load.nothing asked limit too_many
+RepliesTo load asked limit (Err (Refused refusal)) = IsUnanswered load asked limit refusal
 RepliesTo load asked limit (Err ReadFault) = ⊥
 RepliesTo load asked limit (Err NoMemory) = Unit {0}

@@ -13,18 +13,17 @@ use Rattle.dl_run.specs.declared.answer.Asked.{Asked}
 use Rattle.dl_run.specs.declared.stop.Stop.{Stop}
 use Rattle.dl_run.specs.declared.stop.Stop.TheVariants.{Refused, ReadFault, NoMemory}
 use Rattle.dl_run.specs.Input.{Load, IsNumberOf, AreInput}
-use Rattle.dl_run.specs.Limits.{IsWithinLimits}
 use Rattle.dl_run.specs.Signature.{IsSignatureOf}
 use Rattle.std.specs.List.{All}
 use Rattle.std.specs.List.Sorted.{IsStrictlySortedBy}
 use Rattle.dl_terms.specs.Fillers.{HasNoFiller}
 use Rattle.dl_terms.specs.Queries.{IsWellFormed}
 use Rattle.dl_epoch.specs.Known.{IsSignature, IsAxiomIn}
-use Rattle.dl_answer.specs.Facts.{HasPredicates}
+use Rattle.dl_core.specs.Loading.{IsFactIn}
 use Rattle.dl_answer.specs.Replies as answer
-use Rattle.dl_answer.specs.declared.answer.Answer.{Answer}
-use Rattle.dl_answer.specs.declared.fault.AskFault.{AskFault}
-use Rattle.dl_run.specs.Wrong.{IsLoadWrong, IsFirstWrong}
+use Rattle.dl_core.specs.declared.answer.Answer.{Answer}
+use Rattle.dl_core.specs.declared.answer.AskFault.{AskFault}
+use Rattle.dl_run.specs.Wrong.{IsFirstWrong}
 
 abbrev pub load_of : Asked → Load
 load_of asked = record {
@@ -36,14 +35,15 @@ load_of asked = record {
   nothing = asked.nothing;
 }
 
--- what is asked is as its readers make it: the axioms ascend and have no filler, the signature is one and has all
--- names, and the query is well formed
+-- what is asked is as its readers make it: axioms and facts ascend, no axiom has a filler, the signature is one and has
+-- all predicates, and the query is well formed
 pub record IsMade (asked : Asked) : Type 0 where
   pub ascending : IsStrictlySortedBy axiom_cmp asked.axioms
   pub no_fillers : All HasNoFiller asked.axioms
   pub known : All (IsAxiomIn asked.signature) asked.axioms
   pub signature : IsSignature asked.signature
-  pub has_predicates : HasPredicates asked.signature asked.facts
+  pub facts_ascending : IsStrictlySortedBy fact_cmp asked.facts
+  pub facts_known : All (IsFactIn asked.signature) asked.facts
   pub well_formed : IsWellFormed asked.query
 
 -- an answer is the defined reply to what is asked
@@ -53,17 +53,10 @@ AnswersAsked asked limit = answer.RepliesTo asked.axioms asked.facts asked.nothi
 -- what the files give, the first thing that is wrong with them, or want of memory
 abbrev pub Gives : List ℕ → List ℕ → List ℕ → Result Asked Stop → Type 0
 Gives ontology facts query (Ok asked) =
-    AreInput ontology facts query (load_of asked) asked.query × IsWithinLimits (load_of asked) × IsMade asked
+    AreInput ontology facts query (load_of asked) asked.query × IsMade asked
 Gives ontology facts query (Err (Refused refusal)) = IsFirstWrong ontology facts query refusal
 Gives ontology facts query (Err ReadFault) = ⊥
 Gives ontology facts query (Err NoMemory) = Unit {0}
-
--- what was read is within the limits, what is wrong with it, or want of memory
-abbrev pub IsJudged : Asked → Result (Unit {0}) Stop → Type 0
-IsJudged asked (Ok _) = IsWithinLimits (load_of asked)
-IsJudged asked (Err (Refused refusal)) = IsLoadWrong (load_of asked) refusal
-IsJudged asked (Err ReadFault) = ⊥
-IsJudged asked (Err NoMemory) = Unit {0}
 
 -- what was read by places, as it is held by numbers
 pub record IsNumbered (met : List Text) (document : Document) (triples : Triples) (query : Query) (asked : Asked)

@@ -5,7 +5,7 @@ use Rattle.dl_terms.specs.declared.axiom.Axiom.{Axiom}
 use Rattle.dl_terms.specs.declared.query.Query.{Query}
 use Rattle.dl_run.specs.Words.{Form, answer, run, gen, HasForm, HasNoForm}
 use Rattle.dl_run.specs.Input.{Load, AreInput}
-use Rattle.dl_run.specs.Limits.{IsWithinLimits}
+use Rattle.dl_run.specs.Store.{IsWithinLimits}
 use Rattle.dl_run.specs.Wrong.{IsFirstWrong}
 use Rattle.dl_run.specs.Output.{facts_line, answers_text, broken_text, inconsistent_text}
 use Rattle.dl_run.specs.declared.status.Status.{Status}

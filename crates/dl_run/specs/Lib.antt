@@ -4,7 +4,7 @@ pub mod Texts
 pub mod Pieces
 pub mod Signature
 pub mod Input
-pub mod Limits
+pub mod Store
 pub mod Wrong
 pub mod Files
 pub mod Output

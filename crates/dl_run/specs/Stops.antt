@@ -1,4 +1,4 @@
--- What a fault of a file means for the command.
+-- What a fault of a file or of a load means for the command.
 use Rattle.dl_io.specs.declared.whole.FileFault.{FileFault}
 use Rattle.dl_io.specs.declared.whole.FileFault.TheVariants as file
 use Rattle.dl_owl.specs.declared.fault.OwlFault.{OwlFault}
@@ -7,6 +7,8 @@ use Rattle.dl_triples.specs.declared.fault.TripleFault.{TripleFault}
 use Rattle.dl_triples.specs.declared.fault.TripleFault.TheVariants as triples
 use Rattle.dl_query.specs.declared.fault.QueryFault.{QueryFault}
 use Rattle.dl_query.specs.declared.fault.QueryFault.TheVariants as query
+use Rattle.dl_core.specs.declared.fault.LoadFault.{LoadFault}
+use Rattle.dl_core.specs.declared.fault.LoadFault.TheVariants as load
 use Rattle.dl_run.specs.declared.stop.InputFile.{InputFile}
 use Rattle.dl_run.specs.declared.stop.Refusal.TheVariants as refusal
 use Rattle.dl_run.specs.declared.stop.Stop.{Stop}
@@ -41,3 +43,9 @@ abbrev pub stop_of_file : InputFile → FileFault → Stop
 stop_of_file which file.Failed = ReadFault
 stop_of_file which file.TooLong = Refused (refusal.TooLong which)
 stop_of_file which file.NoMemory = NoMemory
+
+abbrev pub stop_of_load : LoadFault → Stop
+stop_of_load (load.TooManyAxioms weight) = Refused (refusal.TooHeavy weight)
+stop_of_load (load.TooManyPredicates count) = Refused (refusal.TooManyPredicates count)
+stop_of_load (load.Full rows) = Refused (refusal.TooManyFacts rows)
+stop_of_load load.NoMemory = NoMemory

@@ -1,6 +1,6 @@
 -- The first thing that is wrong with the files of the command `answer`. The order is this project's own: a file that is
 -- too long, a fault of the ontology, of the data, of the query, then the limits of the load.
-use Rattle.std.specs.Prelude.{◌≡◌, ℕ, ◌<◌, ◌≤◌, List, [], length}
+use Rattle.std.specs.Prelude.{◌≡◌, ℕ, List, []}
 use Rattle.dl_names.specs.NameList.{Text}
 use Rattle.dl_terms.specs.declared.axiom.Fact.{Fact}
 use Rattle.dl_terms.specs.declared.query.Query.{Query}
@@ -12,26 +12,13 @@ use Rattle.dl_triples.specs.declared.fault.TripleFault.{TripleFault}
 use Rattle.dl_triples.specs.Reading.{IsFirstFault}
 use Rattle.dl_query.specs.declared.fault.QueryFault.{QueryFault}
 use Rattle.dl_query.specs.Queries.{HasFault}
-use Rattle.dl_normal.specs.Weight.{total_weight}
-use Rattle.dl_hier.specs.Predicates.{max_predicates}
-use Rattle.dl_epoch.specs.Known.{max_weight}
-use Rattle.dl_answer.specs.Facts.{max_facts}
 use Rattle.dl_run.specs.declared.stop.InputFile.{InputFile}
 use Rattle.dl_run.specs.declared.stop.Refusal.{Refusal}
-use Rattle.dl_run.specs.declared.stop.Refusal.TheVariants.{TooLong, TooHeavy, TooManyPredicates, TooManyFacts}
+use Rattle.dl_run.specs.declared.stop.Refusal.TheVariants.{TooLong}
 use Rattle.dl_run.specs.declared.stop.Stop.TheVariants.{Refused}
 use Rattle.dl_run.specs.Stops.{stop_of_ontology, stop_of_data, stop_of_query}
 use Rattle.dl_run.specs.Input.{Load, IsFirstTooLong, AllFit, AreRead, AreInput}
-use Rattle.dl_run.specs.Limits.{HasPredicateCount, told}
-
--- what is wrong with a load: the axioms are too heavy, there are too many predicates, or too many facts. The first of
--- these is told
-pub data IsLoadWrong (load : Load) : Refusal → Type 0 where
-  too_heavy : max_weight < total_weight load.axioms → IsLoadWrong load (TooHeavy (told (total_weight load.axioms)))
-  too_many_predicates : {count : ℕ} → total_weight load.axioms ≤ max_weight → HasPredicateCount load count
-      → max_predicates < count → IsLoadWrong load (TooManyPredicates (told count))
-  too_many_facts : {count : ℕ} → total_weight load.axioms ≤ max_weight → HasPredicateCount load count
-      → count ≤ max_predicates → max_facts < length load.facts → IsLoadWrong load (TooManyFacts (length load.facts))
+use Rattle.dl_run.specs.Store.{IsLoadWrong}
 
 -- the first thing that is wrong, as it is refused
 pub data IsFirstWrong (ontology facts query : List ℕ) : Refusal → Type 0 where

@@ -8,7 +8,6 @@ ghost use Rattle.dl_run.specs.Asked.{Gives, IsNumbered, IsMade};
 ghost use Rattle.dl_run.specs.Input.{AllFit};
 
 use crate::answer::Asked;
-use crate::limits::judge;
 use crate::sets::{axiom_set, fact_set};
 use crate::signature::signature_of;
 use crate::stop::Stop;
@@ -22,9 +21,8 @@ use std::alloc::Global;
 /// The class that has no members.
 const OWL_NOTHING: &str = "http://www.w3.org/2002/07/owl#Nothing";
 
-/// What the bytes of the three files ask, or the first thing that is wrong with them. Ontology, data and query are
-/// read in this order, and then the limits of the load are tested. The bytes are let go once they are read: all that
-/// comes behind them needs no more memory than they had.
+/// What the bytes of the three files ask, or the first fault of them. Ontology, data and query are read in this order.
+/// The bytes are let go once they are read: all that comes behind them needs no more memory than they had.
 pub(crate) fn input_of(
     alloc: Global,
     ontology: Vec<u8>,
@@ -41,7 +39,6 @@ pub(crate) fn input_of(
     drop(facts);
     drop(ontology);
     let asked = numbered(names, document, triples, read)?;
-    judge(alloc, &asked)?;
     Ok(asked)
 }
 

@@ -5,33 +5,26 @@ ghost use Rattle.dl_terms.specs.Occurring.{axiom_names};
 ghost use Rattle.dl_run.specs.Answered.{AreTold, RepliesTo};
 ghost use Rattle.dl_run.specs.Asked.{load_of, IsMade, AnswersAsked};
 ghost use Rattle.dl_run.specs.declared.answer.Asked.{Asked as Question};
-ghost use Rattle.dl_run.specs.Limits.{IsWithinLimits};
 ghost use Rattle.dl_run.specs.Output.{broken_text};
 
 use crate::answer::{Answers, Asked};
 use crate::stop::{Refusal, Stop};
+use crate::store::reader_of;
 use crate::told::Told;
-use dl_answer::{Answer, AskFault, ask_facts};
+use dl_answer::{Answer, AskFault, ask};
 use dl_names::Names;
 use dl_owl::axiom_text;
 use dl_terms::{Axiom, NoMemory};
 use std::alloc::Global;
 
-/// The answers to what is asked, or the first broken axiom, unless the answers are more than the limit.
+/// The answers to what is asked, or the first broken axiom, unless the load passes a limit of the store or the answers
+/// are more than the limit.
 pub(crate) fn answers_for(alloc: Global, asked: Asked, limit: u64) -> Result<Answers, Stop>
-    requires limits { IsWithinLimits (load_of asked) }
-    requires made { IsMade asked }
+    requires { IsMade asked }
     ensures { RepliesTo (load_of asked) asked.query limit result }
 {
-    let answer = ask_facts(
-        alloc,
-        asked.axioms.as_slice(),
-        &asked.signature,
-        asked.facts.as_slice(),
-        &asked.query,
-        limit,
-        asked.nothing,
-    );
+    let mut reads = reader_of(alloc, &asked)?;
+    let answer = ask(alloc, &mut reads, &asked.query, limit, asked.nothing);
     let told = told_of(alloc, answer, &asked, limit)?;
     Ok(Answers {
         names: asked.names,

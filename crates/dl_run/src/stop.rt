@@ -1,8 +1,9 @@
 // Why a command ends before it has answers.
 ghost use Rattle.std.specs.Prelude.{◌≡◌};
-ghost use Rattle.dl_run.specs.Stops.{stop_of_ontology, stop_of_data, stop_of_query};
+ghost use Rattle.dl_run.specs.Stops.{stop_of_ontology, stop_of_data, stop_of_query, stop_of_load};
 ghost use Rattle.dl_run.specs.declared.stop.Stop.TheVariants.{NoMemory};
 
+use dl_core::LoadFault;
 use dl_owl::{Construct, OwlFault};
 use dl_query::QueryFault;
 use dl_triples::TripleFault;
@@ -160,6 +161,19 @@ impl From<QueryFault> for Stop {
                 head,
             },
             QueryFault::NoMemory => return Stop::NoMemory,
+        })
+    }
+}
+
+impl From<LoadFault> for Stop {
+    ghost from_gives = { λ fault made. made ≡ stop_of_load fault };
+
+    fn from(fault: LoadFault) -> Stop {
+        Stop::Refused(match fault {
+            LoadFault::TooManyAxioms { weight } => Refusal::TooHeavy { weight },
+            LoadFault::TooManyPredicates { count } => Refusal::TooManyPredicates { count },
+            LoadFault::Full { rows } => Refusal::TooManyFacts { count: rows },
+            LoadFault::NoMemory => return Stop::NoMemory,
         })
     }
 }

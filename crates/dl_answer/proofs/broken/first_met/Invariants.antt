@@ -4,13 +4,14 @@ use Rattle.std.specs.List.{All}
 use Rattle.dl_terms.specs.Broken.{IsMet}
 use Rattle.dl_terms.specs.declared.axiom.Axiom.{Axiom}
 use Rattle.dl_terms.specs.declared.axiom.Fact.{Fact}
-use Rattle.dl_answer.specs.Probes.{AreBehind}
-use Rattle.dl_answer.specs.Kept.{AreKept}
+use Rattle.dl_answer.specs.Searches.{AreRead, GoesOn}
 use Rattle.dl_answer.proofs.broken.first_met.Given as goal
 
 abbrev pub invariant-loop-index : goal.invariant-loop-index
-invariant-loop-index l = record {
-  none : (axioms : Items Axiom) (known : Items Fact) → AreBehind l.hier l.facts axioms known
+invariant-loop-index g l = record {
+  none : (axioms : Items Axiom) (known : Items Fact)
+      → AreRead (g.R.Reads.stands l.initial.reads) l.version l.hier l.initial.kept axioms known
       → All (λ n. ¬ IsMet axioms known n.1) (take l.index-index l.negatives);
-  kept : AreKept l.hier l.facts l.kept;
+  goes : GoesOn l.version l.hier (g.R.Reads.stands l.initial.reads) (g.R.Reads.reader l.initial.reads) l.initial.kept
+      (g.R.Reads.stands l.reads) (g.R.Reads.reader l.reads) l.kept;
 }

@@ -1,4 +1,4 @@
 use Rattle.dl_answer.proofs.pairs.pairs_sifted.Given as goal
 
 abbrev pub ghosts-scanned : goal.ghosts-scanned
-ghosts-scanned a = record { name = a.blank.name; parts = a.blank.parts }
+ghosts-scanned g a = record { name = a.blank.name; parts = a.blank.parts }

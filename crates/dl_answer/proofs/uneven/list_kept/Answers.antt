@@ -1,15 +1,23 @@
 use Rattle.std.proofs.Common.{sym, subst, ◌∙◌}
-use Rattle.dl_answer.specs.Probes.{IsListOf}
+use Rattle.std.specs.List.Sorted.{IsSorted}
+use Rattle.dl_join.specs.Disjuncts.{pair_cmp}
+use Rattle.dl_answer.specs.Probes.{HoldAlike}
+use Rattle.dl_answer.proofs.ReaderLemmas.{goes_and_keeps}
 use Rattle.dl_answer.proofs.uneven.list_kept.Goals as goal
 
-pub returns-in_err-keep-clause-kept : goal.returns-in_err-keep-clause-kept
-returns-in_err-keep-clause-kept c =
-    c.keep.ensures c.args.hier.now c.args.facts.now c.in_ok-pairs.ensures.kept
-    (subst (IsListOf c.args.hier.now c.args.facts.now c.args.probe.now) (sym (c.in_ok-copy.ensures ∙ c.as_slice.ensures))
-    c.in_ok-pairs.ensures.list)
+pub keep-requires : goal.keep-requires
+keep-requires g c = subst (IsSorted pair_cmp) (sym (c.in_ok-copy.ensures ∙ c.as_slice.ensures)) c.in_ok-pairs.ensures.list.sorted
 
-pub returns-clause-kept : goal.returns-clause-kept
-returns-clause-kept c =
-    c.keep.ensures c.args.hier.now c.args.facts.now c.in_ok-pairs.ensures.kept
-    (subst (IsListOf c.args.hier.now c.args.facts.now c.args.probe.now) (sym (c.in_ok-copy.ensures ∙ c.as_slice.ensures))
-    c.in_ok-pairs.ensures.list)
+pub returns-in_err-keep-clause-goes : goal.returns-in_err-keep-clause-goes
+returns-in_err-keep-clause-goes g c =
+    goes_and_keeps _ c.in_ok-pairs.ensures.goes (λ axioms facts read kept.
+    c.keep.ensures axioms facts kept
+    (subst (HoldAlike axioms facts c.args.probe.now) (sym (c.in_ok-copy.ensures ∙ c.as_slice.ensures))
+    (c.in_ok-pairs.ensures.list.alike axioms facts read)))
+
+pub returns-clause-goes : goal.returns-clause-goes
+returns-clause-goes g c =
+    goes_and_keeps _ c.in_ok-pairs.ensures.goes (λ axioms facts read kept.
+    c.keep.ensures axioms facts kept
+    (subst (HoldAlike axioms facts c.args.probe.now) (sym (c.in_ok-copy.ensures ∙ c.as_slice.ensures))
+    (c.in_ok-pairs.ensures.list.alike axioms facts read)))

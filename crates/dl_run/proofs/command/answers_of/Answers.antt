@@ -66,11 +66,8 @@ returns-in_err-reserve-clause-says g c =
     let p = err_from_is_err_and c.from_residual-in_err-reserve.result c.from_residual-in_err-reserve.ensures.1 in
     says_no_memory w.ontology.now w.facts.now w.query.now w.limit (g.L.Library.told c.args.files.now) _ p.0 c.from_residual-in_err-reserve.result p.1 p.2
 
-pub answers_for-requires-clause-limits : goal.answers_for-requires-clause-limits
-answers_for-requires-clause-limits g c = c.in_ok-asked.ensures.1
-
-pub answers_for-requires-clause-made : goal.answers_for-requires-clause-made
-answers_for-requires-clause-made g c = c.in_ok-asked.ensures.2
+pub answers_for-requires : goal.answers_for-requires
+answers_for-requires g c = c.in_ok-asked.ensures.1
 
 pub returns-clause-says : goal.returns-clause-says
 returns-clause-says g c =
@@ -83,5 +80,4 @@ returns-clause-says g c =
     one.whole
     (rw one.unchanged at two.whole)
     (rw (two.unchanged, one.unchanged) at c.in_ok-query.ensures.whole)
-    (load_of asked) asked.query c.in_ok-asked.ensures.0 c.in_ok-asked.ensures.1
-    c.answers_for.result c.answers_for.ensures
+    (load_of asked) asked.query c.in_ok-asked.ensures.0 c.answers_for.result c.answers_for.ensures

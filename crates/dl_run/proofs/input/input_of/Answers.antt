@@ -3,7 +3,7 @@ use Rattle.std.proofs.lemmas.Result.{err_from_is_err_and}
 use Rattle.dl_names.proofs.NameListLemmas.{length-Extends}
 use Rattle.dl_terms.specs.Occurring.{axiom_names, fact_names}
 use Rattle.dl_run.proofs.InputLemmas.{placed_later, numbers_later, data_grows}
-use Rattle.dl_run.proofs.WrongLemmas.{ontology_stops, data_stops, query_stops, memory_stops, gives_asked, gives_stop}
+use Rattle.dl_run.proofs.WrongLemmas.{ontology_stops, data_stops, query_stops, memory_stops, gives_asked}
 use Rattle.dl_run.proofs.input.input_of.Goals as goal
 
 pub returns-in_err-document : goal.returns-in_err-document
@@ -54,15 +54,8 @@ pub numbered-requires-clause-triples_placed : goal.numbered-requires-clause-trip
 numbered-requires-clause-triples_placed c =
     placed_later fact_names _ _ _ (length-Extends _ _ c.read_query.ensures.grows) c.in_ok-triples.ensures.places
 
-pub returns-in_err-judge : goal.returns-in_err-judge
-returns-in_err-judge c =
-    let p = err_from_is_err_and c.from_residual-in_err-judge.result c.from_residual-in_err-judge.ensures.1 in
-    gives_stop c.args.ontology.items c.args.facts.items c.args.query.items c.in_ok-document.document c.in_ok-triples.triples _ _ c.in_ok-read.read c.in_ok-asked.asked
-    (record { fit = c.requires; first = _; is_ontology = rw (c.as_slice.ensures.value, c.new-names.ensures) at c.in_ok-document.ensures.value; is_data = rw c.as_slice-2.ensures.value at c.in_ok-triples.ensures.value })
-    (rw c.as_slice-3.ensures.value at c.in_ok-read.ensures.ok) c.in_ok-asked.ensures.numbered p.0 c.from_residual-in_err-judge.result p.1 (rw p.2 c.in_err-judge.ensures)
-
 pub returns : goal.returns
 returns c =
     gives_asked c.args.ontology.items c.args.facts.items c.args.query.items c.in_ok-document.document c.in_ok-triples.triples _ _ c.in_ok-read.read c.in_ok-asked.asked
     (record { fit = c.requires; first = _; is_ontology = rw (c.as_slice.ensures.value, c.new-names.ensures) at c.in_ok-document.ensures.value; is_data = rw c.as_slice-2.ensures.value at c.in_ok-triples.ensures.value })
-    (rw c.as_slice-3.ensures.value at c.in_ok-read.ensures.ok) c.in_ok-asked.ensures.numbered c.in_ok-judge.ensures c.in_ok-asked.ensures.made
+    (rw c.as_slice-3.ensures.value at c.in_ok-read.ensures.ok) c.in_ok-asked.ensures.numbered c.in_ok-asked.ensures.made

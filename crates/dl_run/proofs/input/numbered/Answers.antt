@@ -2,7 +2,7 @@ use Rattle.std.proofs.Common.{◌++◌, length, map, slice_index}
 use Rattle.dl_names.specs.Iris.{owl_nothing}
 use Rattle.dl_run.proofs.InputLemmas.{ranked_axioms, ranked_facts, joined_placed, set_of_joined, number_found, signature_from}
 use Rattle.dl_run.proofs.NamedLemmas.{well_formed_renamed, plain_renamed}
-use Rattle.dl_run.proofs.SignatureLemmas.{axioms_known, ascends, has_predicates}
+use Rattle.dl_run.proofs.SignatureLemmas.{axioms_known, ascends, facts_known}
 use Rattle.dl_run.proofs.input.numbered.Goals as goal
 
 pub ranked-requires-clause-axioms : goal.ranked-requires-clause-axioms
@@ -58,6 +58,7 @@ returns-clause-made c =
       no_fillers = plain_renamed to c.args.document.axioms axioms c.requires.no_fillers (rw c.ranked.ensures.axioms at c.axiom_set-axioms.ensures);
       known = axioms_known axioms facts (map to c.args.document.classes) (map to c.args.document.roles) c.in_ok-signature.signature declared;
       signature = ascends axioms facts (map to c.args.document.classes) (map to c.args.document.roles) c.in_ok-signature.signature declared;
-      has_predicates = has_predicates axioms facts (map to c.args.document.classes) (map to c.args.document.roles) c.in_ok-signature.signature declared;
+      facts_ascending = (set_of_joined to c.args.triples.facts c.args.document.facts _ _ c.in_ok-both.both facts c.ranked-2.ensures.facts c.ranked.ensures.facts c.in_ok-both.ensures c.fact_set-facts.ensures).ascending;
+      facts_known = facts_known axioms facts (map to c.args.document.classes) (map to c.args.document.roles) c.in_ok-signature.signature declared;
       well_formed = rw c.ranked-3.ensures (well_formed_renamed to c.args.query c.requires.well_formed);
     }
