@@ -59,6 +59,7 @@ abbrev pub HoldAlike : List Axiom → List Fact → Probe → List (ℕ × ℕ) 
 HoldAlike axioms facts probe pairs = (q : Probe) → AskAlike probe q → HoldsAlike axioms facts q pairs
 
 -- a sorted list over which a probe holds as over whatever axioms and facts are behind it
-pub record IsListOf (Behind : List Axiom → List Fact → Type 0) (probe : Probe) (pairs : List (ℕ × ℕ)) : Type 0 where
+pub record IsListOf (Behind : List Axiom → List Fact → Type 0) (probe : Probe) (pairs : List (ℕ × ℕ))
+    : Type 0 where
   pub sorted : IsSorted pair_cmp pairs
   pub alike : (axioms : List Axiom) (facts : List Fact) → Behind axioms facts → HoldAlike axioms facts probe pairs

@@ -10,7 +10,8 @@ use Rattle.dl_core.specs.Next.{Numbering, IsNumbering}
 use Rattle.dl_core.specs.Legal.{Reader, SeesMore}
 
 -- a version has these facts, by a load and a list of entries that a reader stands for
-pub record HasFacts (Stands : Numbering → Load → List Entry → Type 0) (version : ℕ) (facts : List Fact) : Type 0 where
+pub record HasFacts (Stands : Numbering → Load → List Entry → Type 0) (version : ℕ) (facts : List Fact)
+    : Type 0 where
   pub numbering : Numbering
   pub load : Load
   pub seen : List Entry

@@ -18,16 +18,16 @@ use Rattle.dl_answer.specs.Replies.{GivesTuples}
 use Rattle.dl_answer.specs.declared.slots.KeptLists.{KeptLists}
 
 -- a reader says at a version that these are the facts, a hierarchy is that of the axioms, and the kept lists are theirs
-pub record AreRead (Stands : Numbering → Load → List Entry → Type 0) (version : ℕ) (h : Hierarchy) (lists : KeptLists)
-    (axioms : List Axiom) (facts : List Fact) : Type 0 where
+pub record AreRead (Stands : Numbering → Load → List Entry → Type 0) (version : ℕ) (h : Hierarchy)
+    (lists : KeptLists) (axioms : List Axiom) (facts : List Fact) : Type 0 where
   pub has : HasFacts Stands version facts
   pub behind : AreBehind h axioms facts
   pub kept : AreKept axioms facts lists
 
 -- a reader has fetched, and what it read with the kept lists before it reads with those after
-pub record GoesOn (version : ℕ) (h : Hierarchy) (Before : Numbering → Load → List Entry → Type 0) (before : Reader)
-    (old : KeptLists) (After : Numbering → Load → List Entry → Type 0) (after : Reader) (new : KeptLists)
-    : Type 0 where
+pub record GoesOn (version : ℕ) (h : Hierarchy) (Before : Numbering → Load → List Entry → Type 0)
+    (before : Reader) (old : KeptLists) (After : Numbering → Load → List Entry → Type 0) (after : Reader)
+    (new : KeptLists) : Type 0 where
   pub fetched : HasFetched Before before After after
   pub stays : (axioms : List Axiom) (facts : List Fact) → AreRead Before version h old axioms facts
       → AreRead After version h new axioms facts
