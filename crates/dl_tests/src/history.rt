@@ -1,10 +1,9 @@
-// What the store answers to lists of events, and what its roots and readers have then.
-use crate::epoch::covering;
+// What the store answers to lists of events, and what its roots have then.
 use crate::row::{class_row, has, role_row};
-use crate::store::{Asked, Said, Shown, Start, Told, after, inclusions, started};
-use dl_core::{Book, LoadFault, Pin, Reads, Refusal, Root, RootReads};
+use crate::store::{Asked, Said, Shown, Start, Told, after, started};
+use dl_core::{LoadFault, Refusal, Root};
 use dl_row::{Kind, OPEN, Row};
-use dl_terms::{Axiom, Fact, NoMemory};
+use dl_terms::Fact;
 use std::alloc::Global;
 
 /// The classes A, AA, B and C, the role P and three individuals, in name order.
@@ -20,29 +19,20 @@ const P: u32 = 4;
 
 pub(crate) const ANN: u32 = 5;
 
-pub(crate) const BOB: u32 = 6;
+const BOB: u32 = 6;
 
-pub(crate) const CLEO: u32 = 7;
+const CLEO: u32 = 7;
 
 pub(crate) const A_ANN: Fact = Fact::Is { class: A, who: ANN };
 
 pub(crate) const A_BOB: Fact = Fact::Is { class: A, who: BOB };
 
-pub(crate) const A_CLEO: Fact = Fact::Is {
+const A_CLEO: Fact = Fact::Is {
     class: A,
     who: CLEO,
 };
 
-pub(crate) const B_BOB: Fact = Fact::Is { class: B, who: BOB };
-
-/// A is in B, and there is an A.
-const ONE_BELOW: Start = Start {
-    classes: &[A, B],
-    below: &[(A, B)],
-    roles: &[],
-    facts: &[A_ANN],
-    shards: 4,
-};
+const B_BOB: Fact = Fact::Is { class: B, who: BOB };
 
 /// What is loaded, and what a stream asks for and is told.
 pub(crate) type Case = (Start, &'static [(Asked, Told)]);
@@ -85,6 +75,21 @@ const CASES: [Case; 5] = [
                     rows: &[
                         class_row!(1, 1, ANN, 1, OPEN),
                         class_row!(1, 1, BOB, 1, OPEN),
+                    ],
+                }),
+            ),
+            // One of the three rows moves.
+            (Asked::Migrate(0, 1), Told::Migrated(1, 2)),
+            (
+                Asked::Look(10),
+                Told::Looked(Shown {
+                    counts: (2, 2, 2, 3, 3, 2),
+                    classes: &[A, AA, B],
+                    roles: &[],
+                    rows: &[
+                        class_row!(1, 1, BOB, 1, OPEN),
+                        class_row!(1, 1, CLEO, 1, OPEN),
+                        class_row!(2, 1, ANN, 1, OPEN),
                     ],
                 }),
             ),
@@ -187,6 +192,19 @@ const CASES: [Case; 5] = [
                     ],
                 }),
             ),
+            (Asked::Migrate(0, 10), Told::Migrated(2, 0)),
+            (
+                Asked::Look(10),
+                Told::Looked(Shown {
+                    counts: (2, 2, 2, 2, 2, 0),
+                    classes: &[A, B, C],
+                    roles: &[],
+                    rows: &[
+                        class_row!(2, 1, ANN, 1, OPEN),
+                        class_row!(2, 2, BOB, 1, OPEN),
+                    ],
+                }),
+            ),
         ],
     ),
     (
@@ -256,80 +274,6 @@ pub(crate) fn all_are_so(alloc: Global, table: &[Case]) -> Result<bool, LoadFaul
 #[test]
 fn a_stream_is_told_what_it_asks_for(rt: HostRuntime) {
     assert!(rt; matches!(all_are_so(rt.alloc(), &CASES), Ok(true)));
-}
-
-/// Whether the epoch of a version has these axioms and classes.
-fn has_ontology(book: &Book, version: u32, axioms: &[Axiom], classes: &[u32]) -> bool {
-    let Some(place) = covering(&book.epochs, version) else {
-        return false;
-    };
-    match book.epochs.entries().get(place as usize) {
-        Some(entry) => {
-            entry.epoch.axioms() == axioms && entry.epoch.signature().classes.as_slice() == classes
-        }
-        None => false,
-    }
-}
-
-/// Whether the reader of stream 1 has a pin at this version, lends shard 0, which is empty, and after a fetch shard 1
-/// with these rows.
-fn reads<R: Reads>(reader: &mut R, version: u32, rows: &[Row]) -> bool {
-    let pin = Pin { stream: 1, version };
-    if reader.pin() != Some(pin) || reader.shards() != 4 || !has(reader.shard(), &[]) {
-        return false;
-    }
-    reader.fetch(1);
-    reader.pin() == Some(pin) && has(reader.shard(), rows)
-}
-
-/// The one row of the fact.
-const ONE_ROW: [Row; 1] = [class_row!(1, 1, ANN, 1, OPEN)];
-
-/// Whether stream 1 is pinned to a version, and the root has the axiom at version 1 and none at version 2.
-fn reads_both(alloc: Global, root: &Root, version: u32) -> Result<bool, NoMemory> {
-    let axioms = inclusions(alloc, &[(A, B)])?;
-    let mut reader = RootReads::new(root.copy()?, 1);
-    Ok(
-        reads(&mut reader, version, &ONE_ROW)
-            && has_ontology(reader.book(), 1, axioms.as_slice(), &[A, B])
-            && has_ontology(reader.book(), 2, &[], &[A, B]),
-    )
-}
-
-/// The steps up to the first question of a stream, and those up to its next one.
-const FIRST: [(Asked, Told); 2] = [
-    (Asked::Pin, Told::Pinned(1)),
-    (
-        Asked::Commit(&[(false, Said::Below(A, B))]),
-        Told::Committed(2, 2),
-    ),
-];
-
-const NEXT: [(Asked, Told); 2] = [
-    (Asked::Unpin, Told::Unpinned(1)),
-    (Asked::Pin, Told::Pinned(2)),
-];
-
-/// Whether a stream with a pin reads the axiom that a commit took away, until it pins anew.
-fn reads_what_it_pinned(alloc: Global) -> Result<bool, LoadFault> {
-    let Some(root) = started(alloc, &ONE_BELOW)? else {
-        return Ok(false);
-    };
-    let Some(first) = after(alloc, root, 1, &FIRST)? else {
-        return Ok(false);
-    };
-    if !reads_both(alloc, &first, 1)? {
-        return Ok(false);
-    }
-    let Some(next) = after(alloc, first, 1, &NEXT)? else {
-        return Ok(false);
-    };
-    Ok(reads_both(alloc, &next, 2)?)
-}
-
-#[test]
-fn a_pin_reads_its_version(rt: HostRuntime) {
-    assert!(rt; matches!(reads_what_it_pinned(rt.alloc()), Ok(true)));
 }
 
 /// Facts in no order, two of them twice.

@@ -49,6 +49,8 @@ mod query;
 #[cfg(test)]
 mod reach;
 #[cfg(test)]
+mod readers;
+#[cfg(test)]
 mod row;
 mod rows;
 #[cfg(test)]
