@@ -2,3 +2,4 @@ pub mod NameList
 pub mod Frozen
 pub mod Arrange
 pub mod Iris
+pub mod Hints

@@ -6,6 +6,7 @@ mod arrange;
 mod fault;
 mod fronts;
 mod frozen;
+mod hints;
 mod iris;
 mod set;
 

@@ -7,7 +7,7 @@ use Rattle.dl_names.proofs.set.NameSet.add.Goals as goal
 -- the text is there
 pub returns-in-Some-clause-named : goal.returns-in-Some-clause-named
 returns-in-Some-clause-named c =
-    sym (names_after-old _ _ (has_name_shown c.self.inside.texts.keys _ c.self.view_is c.args.text.now ∙ sym c.in-Some.ensures.found))
+    c.self.view_is ∙ sym (names_after-old c.args.self.now c.args.text.now (has_name_shown c.self.inside.texts.keys _ c.self.view_is c.args.text.now ∙ sym c.in-Some.ensures.found))
 
 pub returns-in-Some-clause-place : goal.returns-in-Some-clause-place
 returns-in-Some-clause-place c =
