@@ -2,6 +2,7 @@ ghost use Rattle.std.specs.Prelude.{◌≡◌, ◌≤◌, length};
 
 use dl_names::{NameFault, NameSet, Names, Ranks, is_iri_byte, is_reserved, name_of};
 use dl_terms::Fact;
+use std::alloc::Global;
 
 /// Texts in the order in which they come, each with its place by first occurrence.
 const PLACES: &[(&str, u32)] = &[
@@ -93,10 +94,35 @@ fn freezes(set: NameSet) -> bool {
     names.len() == 7 && are_ranked(&ranks, &RANKS) && are_the_seven(&names)
 }
 
+/// Texts that are looked up side by side, and their places: 7 where they are none of the seven.
+const LOOKED_UP: (&[&str], &[u32]) = (
+    &["a", "A", "é", "", "b", "a", "ab-", "Z"],
+    &[1, 7, 4, 2, 0, 1, 7, 5],
+);
+
+/// Whether these are their places.
+fn are_places(alloc: Global, set: &mut NameSet, texts: &[&str], places: &[u32]) -> bool {
+    let mut found = Vec::new(alloc);
+    set.places(texts, &mut found).is_ok() && found.as_slice() == places
+}
+
+/// Whether each text gets its place, if it is said to have this one.
+fn are_added_at(set: &mut NameSet, rows: &[(&str, u32)], place: u32) -> bool {
+    for row in rows {
+        if set.add_at(row.0, place) != Ok(row.1) {
+            return false;
+        }
+    }
+    true
+}
+
 #[test]
 fn places_by_first_occurrence_and_ranks_by_bytes(rt: HostRuntime) {
     let mut set = NameSet::new(rt.alloc());
+    assert!(rt; are_added_at(&mut set, PLACES, 1));
+    assert!(rt; are_places(rt.alloc(), &mut set, LOOKED_UP.0, LOOKED_UP.1));
     assert!(rt; are_added(&mut set, PLACES));
+    assert!(rt; are_added_at(&mut set, PLACES, 7));
     assert!(rt; freezes(set));
 }
 
