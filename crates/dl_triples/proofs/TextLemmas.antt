@@ -1,6 +1,7 @@
 -- Reading line by line gives the value of the whole, or its first fault.
-use Rattle.std.proofs.Common.{◌≡◌, ℕ, ◌+◌, ◌<◌, ◌≤◌, Bool, true, false, nat_eq, List, [], ◌∷◌, ◌++◌, length, Option, Some, None, Bor, refl, sym, ap, ◌∙◌, subst, append_assoc, append-nil, add-zero, zero-add, arith, length-append}
+use Rattle.std.proofs.Common.{◌≡◌, ℕ, ◌+◌, ◌<◌, ◌≤◌, Bool, true, false, nat_eq, List, [], ◌∷◌, ◌++◌, length, drop, get_or, Option, Some, None, Bor, refl, sym, ap, ◌∙◌, subst, append_assoc, append-nil, add-one, add-zero, zero-add, arith, length-append, drop-cons}
 use borrow.Author.Tests.{eqb-true}
+use Rattle.std.proofs.lemmas.List.{drop_all}
 use Rattle.dl_names.specs.NameList.{Text}
 use Rattle.dl_terms.specs.declared.axiom.Fact.{Fact}
 use Rattle.dl_triples.specs.declared.fault.TripleFault.{TripleFault}
@@ -9,7 +10,11 @@ use Rattle.dl_triples.specs.declared.meaning.Meaning.TheVariants as meanings
 use Rattle.dl_triples.specs.Lines.{is_line_byte, IsLine, IsLineEnd, cr_lf, lf, cr, AreLines, last, ended}
 use Rattle.dl_triples.specs.Meaning.{meaning_of, skips}
 use Rattle.dl_triples.specs.Reading.{Gives, nothing, triple, HasFault, AreRead, none, line, FirstFault, here, later, IsValue, IsFirstFault, HoldsFirst, HoldsPart}
-use Rattle.dl_triples.specs.Parts.{LineThen, IsFirstLine}
+use Rattle.dl_triples.specs.declared.line.Form.{Form}
+use Rattle.dl_triples.specs.declared.reading.Triples.{Triples}
+use Rattle.dl_triples.specs.Adding.{AddsLine}
+use Rattle.dl_triples.specs.Parts.{LineThen, IsFirstLine, HasForm}
+use Rattle.dl_triples.specs.Progress.{Read, AreCut, cut_none, cut_line}
 use Rattle.dl_triples.proofs.SpelledLemmas.{first_same, not_empty}
 
 -- ---- the bytes have lines
@@ -89,15 +94,6 @@ skips_few (triple g) = few (meaning_of g.subject g.predicate g.object) g.counted
     few meanings.Class e = omega (arith, e)
     few meanings.Link e = omega (arith, e)
 
--- the lines before the rest are read, and the next line has this number
-pub record Read (bytes rest : List ℕ) (names now : List Text) (n : ℕ) (facts : List Fact) (skipped : ℕ) : Type 0 where
-  pub done : List (List ℕ)
-  pub cut : (lines : List (List ℕ)) → AreLines rest lines → AreLines bytes (done ++ lines)
-  pub read : AreRead done names facts skipped now
-  pub number : n ≡ 1 + length done
-  pub few : skipped < n
-  pub fits : n + length rest ≤ length bytes + 1
-
 pub Read-first : (bytes : List ℕ) (names : List Text) → Read bytes bytes names names 1 [] 0
 Read-first bytes names = record { done = []; cut = λ lines is. is; read = none; number = refl; few = omega arith; fits = omega arith }
 
@@ -153,3 +149,86 @@ module _ (bytes rest : List ℕ) (names now : List Text) (n : ℕ) (facts : List
           read = read.read;
           first = holds;
         }
+
+-- names that some first lines leave are those of a part
+pub Read-held : (bytes rest : List ℕ) (names now : List Text) (n : ℕ) (facts : List Fact) (skipped : ℕ) → Read bytes rest names now n facts skipped → HoldsPart bytes names now
+Read-held bytes rest names now n facts skipped read = by (lines_of rest).0 (lines_of rest).1
+  where
+    by : (lines : List (List ℕ)) → AreLines rest lines → HoldsPart bytes names now
+    by [] are = elim are [ ]
+    by (one ∷ more) are = record { done = read.done; line = one; more = more; cut = read.cut (one ∷ more) are; facts = facts; skipped = skipped; middle = now; read = read.read; first = none }
+
+-- ---- lines that are cut ahead
+
+-- one more line is cut
+pub AreCut-push : {bytes rest first behind : List ℕ} {forms : List Form} (form : Form) → AreCut bytes forms rest → IsLine first → LineThen rest first behind → HasForm first form → AreCut bytes (forms ++ form ∷ []) behind
+AreCut-push form cut_none is then has = cut_line is then has cut_none
+AreCut-push form (cut_line is' then' has' more) is then has = cut_line is' then' has' (AreCut-push form more is then has)
+
+-- each line that is cut has its end
+pub length-AreCut : {bytes rest : List ℕ} {forms : List Form} → AreCut bytes forms rest → length forms + length rest ≤ length bytes
+length-AreCut cut_none = omega arith
+length-AreCut (cut_line {bytes = bytes} {first = first} {behind = behind} is then has more) =
+    omega (arith, length-AreCut more, behind_shorter bytes first behind then)
+
+-- lines are read up to some that were cut ahead
+pub record ReadsOn (bytes : List ℕ) (forms : List Form) (behind : List ℕ) (names now : List Text) (n : ℕ) (facts : List Fact) (skipped : ℕ) : Type 0 where
+  pub rest : List ℕ
+  pub read : Read bytes rest names now n facts skipped
+  pub cut : AreCut rest forms behind
+
+module _ (bytes behind : List ℕ) (names now : List Text) (n : ℕ) (triples : Triples) where
+  -- the first of them
+  pub ReadsOn-at : (seen forms : List Form) → seen ≡ forms → (i : ℕ) (d : Form) → i < length seen → ReadsOn bytes (drop i forms) behind names now n triples.facts triples.skipped
+      → ReadsOn bytes (get_or seen i d ∷ drop (i + 1) forms) behind names now n triples.facts triples.skipped
+  ReadsOn-at seen forms same i d lt on =
+      let here = subst (λ l. ReadsOn bytes (drop i l) behind names now n triples.facts triples.skipped) (sym same) on in
+      let one = drop-cons seen i d lt ∙ ap (λ k. get_or seen i d ∷ drop k seen) (sym (add-one i)) in
+      subst (λ l. ReadsOn bytes (get_or seen i d ∷ drop (i + 1) l) behind names now n triples.facts triples.skipped) same
+      (subst (λ l. ReadsOn bytes l behind names now n triples.facts triples.skipped) one here)
+
+  -- none is left
+  pub ReadsOn-all : (forms : List Form) (i : ℕ) → length forms ≤ i → ReadsOn bytes (drop i forms) behind names now n triples.facts triples.skipped → Read bytes behind names now n triples.facts triples.skipped
+  ReadsOn-all forms i le on = by on.rest (subst (λ l. AreCut on.rest l behind) (drop_all i forms le) on.cut) on.read
+    where
+      by : (rest : List ℕ) → AreCut rest [] behind → Read bytes rest names now n triples.facts triples.skipped → Read bytes behind names now n triples.facts triples.skipped
+      by rest cut_none read = read
+
+  module _ (form : Form) (forms : List Form) where
+    -- it is read, too
+    pub ReadsOn-next : (next : List Text) (added : Triples) → ((line : List ℕ) → HasForm line form → AddsLine line now next triples added) → ReadsOn bytes (form ∷ forms) behind names now n triples.facts triples.skipped
+        → ReadsOn bytes forms behind names next (n + 1) added.facts added.skipped
+    ReadsOn-next next added adds on = by on.rest on.cut on.read
+      where
+        by : (rest : List ℕ) → AreCut rest (form ∷ forms) behind → Read bytes rest names now n triples.facts triples.skipped → ReadsOn bytes forms behind names next (n + 1) added.facts added.skipped
+        by rest (cut_line {first = first} {behind = left} is then has more) read =
+            let one = adds first has in
+            record {
+              rest = left;
+              read = Read-next bytes rest names now n triples.facts triples.skipped read first left next added.facts one.facts added.skipped one.skipped is then one.gives one.is one.counted;
+              cut = more;
+            }
+
+    -- it has a fault, which is the first
+    pub ReadsOn-fault : (fault : TripleFault) → ((line : List ℕ) → HasForm line form → HasFault line now n fault) → ReadsOn bytes (form ∷ forms) behind names now n triples.facts triples.skipped → IsFirstFault bytes names fault
+    ReadsOn-fault fault faulty on = by on.rest on.cut on.read
+      where
+        by : (rest : List ℕ) → AreCut rest (form ∷ forms) behind → Read bytes rest names now n triples.facts triples.skipped → IsFirstFault bytes names fault
+        by rest (cut_line {first = first} {behind = left} is then has more) read =
+            Read-fault bytes rest names now n triples.facts triples.skipped read first (Some (record { ref_ptr = (0, 0); now = left })) (record { is_line = is; ends = then }) fault (faulty first has)
+
+    pub ReadsOn-part : (held : List Text) → ((line : List ℕ) → HasForm line form → HoldsFirst line now held) → ReadsOn bytes (form ∷ forms) behind names now n triples.facts triples.skipped → HoldsPart bytes names held
+    ReadsOn-part held holds on = by on.rest on.cut on.read
+      where
+        by : (rest : List ℕ) → AreCut rest (form ∷ forms) behind → Read bytes rest names now n triples.facts triples.skipped → HoldsPart bytes names held
+        by rest (cut_line {first = first} {behind = left} is then has more) read =
+            Read-part bytes rest names now n triples.facts triples.skipped read first (Some (record { ref_ptr = (0, 0); now = left })) (record { is_line = is; ends = then }) held (holds first has)
+
+-- lines that were cut ahead are read, behind names of which some were looked up
+pub Read-ahead : {bytes rest next : List ℕ} {before names looked : List Text} {n len count : ℕ} {facts : List Fact} {skipped : ℕ} {forms : List Form} (after : List Text) (more : List Fact) (total : ℕ) → Read bytes rest before names n facts skipped
+    → looked ≡ names → AreCut rest forms next → len ≡ count
+    → ((bytes rest behind : List ℕ) (before : List Text) → Read bytes rest before looked n facts skipped → AreCut rest forms behind → Read bytes behind before after (n + count) more total)
+    → Read bytes next before after (n + len) more total
+Read-ahead {bytes = bytes} {rest = rest} {next = next} {before = before} {n = n} {facts = facts} {skipped = skipped} after more total read same cut as_many reads =
+    subst (λ (k : ℕ). Read bytes next before after (n + k) more total) (sym as_many)
+    (reads bytes rest next before (subst (λ l. Read bytes rest before l n facts skipped) (sym same) read) cut)

@@ -6,3 +6,4 @@ pub mod Meaning
 pub mod Reading
 pub mod Parts
 pub mod Adding
+pub mod Progress

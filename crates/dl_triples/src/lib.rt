@@ -1,6 +1,7 @@
 // The reader of facts in N-Triples: a triple is skipped, has no effect, or is a fact of a class or of a role.
 #![tactic(auto)]
 
+mod ahead;
 mod fault;
 pub mod laws;
 mod line;

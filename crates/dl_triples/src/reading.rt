@@ -1,5 +1,5 @@
 // Reads a text of N-Triples line by line.
-ghost use Rattle.std.specs.Prelude.{◌≡◌, ◌≢◌, ℕ, ◌+◌, ◌<◌, ◌≤◌, ◌^◌, ◌⊎◌, List, length, map, slice_index, MatchResult, IfOk, IfErr, OnOk, OnErr, IsOk};
+ghost use Rattle.std.specs.Prelude.{◌≡◌, ◌≢◌, ℕ, ◌+◌, ◌<◌, ◌≤◌, ◌^◌, ◌⊎◌, List, length, map, slice_index, MatchResult, IfOk, IfErr, OnOk, OnErr, IsOk, vec_len};
 ghost use Rattle.std.specs.List.{All};
 ghost use Rattle.dl_terms.specs.declared.axiom.Fact.{Fact};
 ghost use Rattle.dl_terms.specs.Renamed.{renamed_fact};
@@ -8,7 +8,10 @@ ghost use Rattle.dl_names.specs.NameList.{Text, max_names};
 ghost use Rattle.dl_triples.specs.declared.fault.TripleFault.{TripleFault};
 ghost use Rattle.dl_triples.specs.Reading.{IsValue, IsFirstFault, HasFault, HoldsFirst, HoldsPart};
 ghost use Rattle.dl_triples.specs.Adding.{AddsLine};
+ghost use Rattle.dl_triples.specs.Parts.{HasForm};
+ghost use Rattle.dl_triples.specs.Progress.{AreCut, Read};
 
+use crate::ahead::{Ahead, Places};
 use crate::fault::TripleFault;
 use crate::line::{Form, form_of};
 use crate::lines::first_line;
@@ -77,10 +80,14 @@ pub fn read_triples(
         skipped: 0,
     };
     let mut buffer = String::new(alloc);
+    let mut ahead = Ahead::new(alloc)?;
     let mut rest = bytes;
     let mut n = 1u64;
     'lines: loop {
-        let (line, behind) = first_line(rest);
+        let next = ahead.look(rest, names)?;
+        read_ahead(&ahead, n, names, &mut buffer, &mut triples)?;
+        n += ahead.forms.len() as u64;
+        let (line, behind) = first_line(next);
         read_line(line, n, names, &mut buffer, &mut triples)?;
         let Some(next) = behind else {
             return Ok(triples);
@@ -88,6 +95,37 @@ pub fn read_triples(
         rest = next;
         n += 1;
     }
+}
+
+/// Reads the lines that were cut ahead, of which the first has this number.
+fn read_ahead(
+    ahead: &Ahead,
+    n: u64,
+    names: &mut NameSet,
+    buffer: &mut String,
+    triples: &mut Triples,
+) -> Result<(), TripleFault>
+    requires counted { triples.old.skipped + vec_len ahead.now.forms + 1 < 2 ^ 64 }
+    requires numbered { n + vec_len ahead.now.forms < 2 ^ 64 }
+    ensures ok { (bytes rest behind : List ℕ) (before : List Text) →
+        Read bytes rest before names.old n triples.old.facts triples.old.skipped →
+        AreCut rest ahead.now.forms.items behind →
+        OnOk result (Read bytes behind before names.new (n + vec_len ahead.now.forms)
+        triples.new.facts triples.new.skipped) }
+    ensures fault { (bytes rest behind : List ℕ) (before : List Text) →
+        Read bytes rest before names.old n triples.old.facts triples.old.skipped →
+        AreCut rest ahead.now.forms.items behind →
+        IfErr result (λ fault. fault ≢ TripleFault.NoMemory → IsFirstFault bytes before fault) }
+    ensures part { (bytes rest behind : List ℕ) (before : List Text) →
+        Read bytes rest before names.old n triples.old.facts triples.old.skipped →
+        AreCut rest ahead.now.forms.items behind →
+        OnErr result (HoldsPart bytes before names.new) }
+{
+    for (index, form) in ahead.forms.iter().enumerate() {
+        let places = ahead.places(index);
+        read_form(*form, places, n + index as u64, names, buffer, triples)?;
+    }
+    Ok(())
 }
 
 /// Reads the line with this number.
@@ -104,9 +142,30 @@ fn read_line(
         HasFault line.now names.old n fault) }
     ensures first { OnErr result (HoldsFirst line.now names.old names.new) }
 {
-    match form_of(line) {
+    read_form(form_of(line), Places::any(), n, names, buffer, triples)
+}
+
+/// Reads a line of this form and with this number. The places, which may be any, are tried first.
+fn read_form(
+    form: Form,
+    places: Places,
+    n: u64,
+    names: &mut NameSet,
+    buffer: &mut String,
+    triples: &mut Triples,
+) -> Result<(), TripleFault>
+    requires { triples.old.skipped + 1 < 2 ^ 64 }
+    ensures ok { (line : List ℕ) → HasForm line form.entry →
+        OnOk result (AddsLine line names.old names.new triples.old triples.new) }
+    ensures fault { (line : List ℕ) → HasForm line form.entry →
+        IfErr result (λ fault. fault ≢ TripleFault.NoMemory → HasFault line names.old n fault) }
+    ensures first { (line : List ℕ) → HasForm line form.entry →
+        OnErr result (HoldsFirst line names.old names.new) }
+    ensures few { triples.new.skipped ≤ triples.old.skipped + 1 }
+{
+    match form {
         Form::Nothing => Ok(()),
-        Form::Triple(triple) => read_triple(triple, n, names, buffer, triples),
+        Form::Triple(triple) => read_triple(triple, places, n, names, buffer, triples),
         Form::Node => Err(TripleFault::Blank { n }),
         Form::Other => Err(TripleFault::Line { n }),
     }

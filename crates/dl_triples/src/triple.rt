@@ -1,5 +1,5 @@
 // Reads the terms of a triple: what it says, and its names.
-ghost use Rattle.std.specs.Prelude.{◌≡◌, ◌≢◌, ℕ, ◌+◌, ◌<◌, ◌^◌, List, [], ◌∷◌, ◌++◌, Option, Some, IfOk, IfErr, OnOk, OnErr, IsOk, MatchResult};
+ghost use Rattle.std.specs.Prelude.{◌≡◌, ◌≢◌, ℕ, ◌+◌, ◌<◌, ◌≤◌, ◌^◌, List, [], ◌∷◌, ◌++◌, Option, Some, IfOk, IfErr, OnOk, OnErr, IsOk, MatchResult};
 ghost use Rattle.dl_names.specs.NameList.{Text, names_after, place_of};
 ghost use Rattle.dl_triples.specs.declared.meaning.Meaning.TheVariants as meanings;
 ghost use Rattle.dl_triples.specs.Meaning.{kind_of, meaning_of, triple_names, all_named};
@@ -7,6 +7,7 @@ ghost use Rattle.dl_triples.specs.Parts.{IsKept, IsKeptTriple};
 ghost use Rattle.dl_triples.specs.Reading.{Overflows};
 ghost use Rattle.dl_triples.specs.Adding.{NamesFirst, fault_at, AddsFact, AddsTriple, HasTripleFault};
 
+use crate::ahead::Places;
 use crate::fault::TripleFault;
 use crate::line::{Iri, Triple};
 use crate::meaning::{Kind, Meaning, kind_of, meaning_of_kinds};
@@ -15,9 +16,11 @@ use crate::spelling::decode;
 use dl_names::{NameFault, NameSet};
 use dl_terms::{Fact, List, NoMemory};
 
-/// Reads a triple in the line with this number. The buffer is for IRIs with escapes.
+/// Reads a triple in the line with this number. The places, which may be any, are tried first, and the buffer is for
+/// IRIs with escapes.
 pub(crate) fn read_triple(
     triple: Triple,
+    places: Places,
     n: u64,
     names: &mut NameSet,
     buffer: &mut String,
@@ -31,6 +34,7 @@ pub(crate) fn read_triple(
         IfErr result (λ fault. fault ≢ TripleFault.NoMemory → HasTripleFault s p o names.old n fault) }
     ensures first { (s p : Text) (o : Option Text) → IsKeptTriple triple.entry s p o →
         OnErr result (NamesFirst names.old (triple_names s p o) names.new) }
+    ensures few { triples.new.skipped ≤ triples.old.skipped + 1 }
 {
     let Some(object) = triple.object else {
         triples.skipped += 1;
@@ -44,11 +48,18 @@ pub(crate) fn read_triple(
         Meaning::NoEffect => Ok(()),
         Meaning::Reserved => Err(TripleFault::Reserved { n }),
         Meaning::Class => told(
-            add_class(triple.subject, object, names, buffer, &mut triples.facts),
+            add_class(
+                triple.subject,
+                object,
+                places,
+                names,
+                buffer,
+                &mut triples.facts,
+            ),
             n,
         ),
         Meaning::Link => told(
-            add_link(triple, object, names, buffer, &mut triples.facts),
+            add_link(triple, object, places, names, buffer, &mut triples.facts),
             n,
         ),
     }
@@ -93,8 +104,8 @@ fn kind(iri: Iri, buffer: &mut String) -> Result<Kind, NoMemory>
     Ok(kind_of(buffer.as_str()))
 }
 
-/// The place of the name that an IRI is. It is added to the names.
-fn add(iri: Iri, names: &mut NameSet, buffer: &mut String) -> Result<u32, NameFault>
+/// The place of the name that an IRI is. It is added to the names. The place that is given is tried first.
+fn add(iri: Iri, place: u32, names: &mut NameSet, buffer: &mut String) -> Result<u32, NameFault>
     ensures ok { (value : Text) → IsKept iri.entry value → IfOk result (λ place.
         (names.new ≡ names_after names.old value) × (place ≡ place_of names.new value)) }
     ensures fits { OnOk result (Overflows names.old names.new → ⊥) }
@@ -103,7 +114,7 @@ fn add(iri: Iri, names: &mut NameSet, buffer: &mut String) -> Result<u32, NameFa
     ensures err { OnErr result (names.new ≡ names.old) }
 {
     if iri.plain {
-        return names.add(iri.text);
+        return names.add_at(iri.text, place);
     }
     let Ok(()) = decode(iri.text.as_bytes(), buffer) else {
         return Err(NameFault::NoMemory);
@@ -115,6 +126,7 @@ fn add(iri: Iri, names: &mut NameSet, buffer: &mut String) -> Result<u32, NameFa
 fn add_class(
     subject: Iri,
     object: Iri,
+    places: Places,
     names: &mut NameSet,
     buffer: &mut String,
     facts: &mut List<Fact>,
@@ -127,8 +139,8 @@ fn add_class(
     ensures first { (s o : Text) → IsKept subject.entry s → IsKept object.entry o →
         OnErr result (NamesFirst names.old (s ∷ o ∷ []) names.new) }
 {
-    let who = add(subject, names, buffer)?;
-    let class = add(object, names, buffer)?;
+    let who = add(subject, places.subject, names, buffer)?;
+    let class = add(object, places.object, names, buffer)?;
     push(facts, Fact::Is { class, who })
 }
 
@@ -136,6 +148,7 @@ fn add_class(
 fn add_link(
     triple: Triple,
     object: Iri,
+    places: Places,
     names: &mut NameSet,
     buffer: &mut String,
     facts: &mut List<Fact>,
@@ -151,9 +164,9 @@ fn add_link(
         IsKept triple.entry.subject s → IsKept triple.entry.predicate p → IsKept object.entry o →
         OnErr result (NamesFirst names.old (s ∷ p ∷ o ∷ []) names.new) }
 {
-    let from = add(triple.subject, names, buffer)?;
-    let role = add(triple.predicate, names, buffer)?;
-    let to = add(object, names, buffer)?;
+    let from = add(triple.subject, places.subject, names, buffer)?;
+    let role = add(triple.predicate, places.predicate, names, buffer)?;
+    let to = add(object, places.object, names, buffer)?;
     push(facts, Fact::Link { role, from, to })
 }
 

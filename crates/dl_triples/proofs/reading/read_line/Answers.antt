@@ -1,37 +1,10 @@
-use Rattle.std.proofs.lemmas.Result.{on_err_weaker, IfErr-weaker}
-use Rattle.dl_triples.specs.Reading.{neither, blank, none}
-use Rattle.dl_triples.proofs.TripleLemmas.{line_nothing, line_triple, line_fault, line_first}
 use Rattle.dl_triples.proofs.reading.read_line.Goals as goal
 
-pub returns-in-Nothing-clause-ok : goal.returns-in-Nothing-clause-ok
-returns-in-Nothing-clause-ok c = line_nothing c.args.line.now c.args.names.now c.args.triples.now c.in-Nothing.ensures
+pub returns-clause-ok : goal.returns-clause-ok
+returns-clause-ok c = c.read_form.ensures.ok c.args.line.now c.form_of.ensures
 
-pub returns-in-Triple-clause-ok : goal.returns-in-Triple-clause-ok
-returns-in-Triple-clause-ok c =
-    let keeps = c.in-Triple.ensures in
-    line_triple c.args.line.now keeps.subject keeps.predicate keeps.object c.args.names.now c.read_triple.new.names c.args.triples.now c.read_triple.new.triples c.read_triple.result keeps.is
-    (c.read_triple.ensures.ok keeps.subject keeps.predicate keeps.object keeps.kept) c.read_triple.ensures.fits
+pub returns-clause-fault : goal.returns-clause-fault
+returns-clause-fault c = c.read_form.ensures.fault c.args.line.now c.form_of.ensures
 
-pub returns-in-Triple-clause-fault : goal.returns-in-Triple-clause-fault
-returns-in-Triple-clause-fault c =
-    let keeps = c.in-Triple.ensures in
-    IfErr-weaker c.read_triple.result _ _ (λ fault told other. line_fault c.args.line.now keeps.subject keeps.predicate keeps.object c.args.names.now c.args.n fault keeps.is (told other))
-    (c.read_triple.ensures.fault keeps.subject keeps.predicate keeps.object keeps.kept)
-
-pub returns-in-Triple-clause-first : goal.returns-in-Triple-clause-first
-returns-in-Triple-clause-first c =
-    let keeps = c.in-Triple.ensures in
-    on_err_weaker c.read_triple.result (line_first c.args.line.now keeps.subject keeps.predicate keeps.object c.args.names.now c.read_triple.new.names keeps.is)
-    (c.read_triple.ensures.first keeps.subject keeps.predicate keeps.object keeps.kept)
-
-pub returns-in-Node-clause-fault : goal.returns-in-Node-clause-fault
-returns-in-Node-clause-fault c = λ _. blank c.in-Node.ensures
-
-pub returns-in-Node-clause-first : goal.returns-in-Node-clause-first
-returns-in-Node-clause-first c = none
-
-pub returns-in-Other-clause-fault : goal.returns-in-Other-clause-fault
-returns-in-Other-clause-fault c = λ _. let form = c.in-Other.ensures in neither form.no_nothing form.no_triple form.no_node
-
-pub returns-in-Other-clause-first : goal.returns-in-Other-clause-first
-returns-in-Other-clause-first c = none
+pub returns-clause-first : goal.returns-clause-first
+returns-clause-first c = c.read_form.ensures.first c.args.line.now c.form_of.ensures

@@ -1,5 +1,5 @@
 use Rattle.std.proofs.Common.{length}
-use Rattle.dl_triples.proofs.TextLemmas.{Read}
+use Rattle.dl_triples.specs.Progress.{Read}
 use Rattle.dl_triples.proofs.reading.read_triples.Given as goal
 
 abbrev pub invariant-lines : goal.invariant-lines
