@@ -1,0 +1,4 @@
+pub mod PrintLemmas
+pub mod ConstructLemmas
+pub mod BelowLemmas
+pub mod LineLemmas

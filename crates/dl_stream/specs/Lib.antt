@@ -1,0 +1,4 @@
+pub mod Printing
+pub mod Lines
+pub mod Outcomes
+pub mod Pieces
