@@ -1,5 +1,5 @@
 -- Lines of answers and rows, as they are printed piece by piece.
-use Rattle.std.proofs.Common.{◌≡◌, ◌≤◌, ◌+◌, ◌<◌, ℕ, zero, suc, true, cond, List, [], ◌∷◌, ◌++◌, length, map, get_or, codes, refl, sym, ap, ◌∙◌, arith, append_assoc}
+use Rattle.std.proofs.Common.{◌≡◌, ◌≤◌, ◌+◌, ◌<◌, ◌==◌, ℕ, zero, suc, Bool, true, false, if◌then◌else◌, List, [], ◌∷◌, ◌++◌, length, map, get_or, codes, refl, sym, ap, ◌∙◌, arith, append_assoc}
 use Rattle.std.proofs.lemmas.List.{append-nil}
 use Rattle.std.proofs.lemmas.List.Folds.{flat_map-map}
 use Rattle.std.proofs.lemmas.List.FromFn.{length-enumerate_from, get_or-enumerate_from}
@@ -7,10 +7,9 @@ use Rattle.std.specs.List.{flat_map, enumerate_from}
 use Rattle.std.specs.Fmt.{decimal}
 use Rattle.dl_names.specs.NameList.{Text}
 use Rattle.dl_owl.specs.AxiomText.{iri_text}
-use Rattle.dl_row.specs.declared.row.Kind.{Kind}
 use Rattle.dl_row.specs.declared.row.Row.{Row}
-use Rattle.dl_stream.specs.Lines.{line, listed, kind_word, individuals_by, fact_line}
-use Rattle.dl_stream.specs.Pieces.{separator}
+use Rattle.dl_stream.specs.Lines.{line, spaced, words_line, listed, fact_words, row_line}
+use Rattle.dl_stream.specs.Pieces.{separator, row_start, row_rest}
 
 -- ---- the names of a tuple
 
@@ -53,7 +52,7 @@ name_next names tuple column n before within is is_n =
 
 -- the line of a predicate, where numbers go from 1
 abbrev pub numbered_line : List Text → Text → ℕ × ℕ → Text
-numbered_line names word numbered = line (word ∷ codes " " ∷ decimal numbered.0 ∷ codes " " ∷ iri_text names numbered.1 ∷ [])
+numbered_line names word numbered = words_line (word ∷ decimal numbered.0 ∷ iri_text names numbered.1 ∷ [])
 
 -- the line of the next one
 pub line_next : (names : List Text) (word : Text) (predicates : List ℕ) (i : ℕ) → i < length predicates
@@ -64,11 +63,15 @@ line_next names word predicates i within =
 
 -- ---- the line of a row
 
--- what a row of a kind says
-pub fact_of : (names : List Text) (row : Row) (kind : Kind) → row.kind ≡ kind
-    → line (kind_word kind ∷ decimal row.number ∷ flat_map (λ individual. codes " " ∷ iri_text names individual ∷ []) (individuals_by kind row.s row.o)) ≡ fact_line names row
-fact_of names row kind is =
-    ap (λ k. line (kind_word k ∷ decimal row.number ∷ flat_map (λ individual. codes " " ∷ iri_text names individual ∷ []) (individuals_by k row.s row.o))) (sym is)
+-- it begins with what it carries
+pub row_printed : (names : List Text) (current : ℕ) (row : Row) → row_start current row.epoch ++ row_rest names row ≡ row_line names current row
+row_printed names current row = by (row.epoch == current) row.epoch (fact_words names row)
+  where
+    by : (is_current : Bool) (carried : ℕ) (words : List Text)
+        → (if is_current then codes "row" else codes "old " ++ decimal carried) ++ line (spaced words)
+        ≡ words_line ((if is_current then codes "row" ∷ [] else codes "old" ∷ decimal carried ∷ []) ++ words)
+    by true carried words = refl
+    by false carried words = refl
 
 -- ---- lines that are printed in parts
 
@@ -80,3 +83,9 @@ behind_digits text digits more rest = simp append_assoc
 pub behind_two : (text digits next two more rest : Text)
     → (text ++ (digits ++ (next ++ (two ++ more)))) ++ rest ≡ text ++ (digits ++ (next ++ (two ++ (more ++ rest))))
 behind_two text digits next two more rest = simp append_assoc
+
+-- words with a space before each, and the end of the line
+pub line_of_spaced : (words : List Text) → flat_map (λ word. 32 ∷ word) words ++ 10 ∷ [] ≡ line (spaced words)
+line_of_spaced [] = refl
+line_of_spaced (word ∷ words) =
+    append_assoc (32 ∷ word) (flat_map (λ next. 32 ∷ next) words) (10 ∷ []) ∙ ap (λ l. 32 ∷ (word ++ l)) (line_of_spaced words)

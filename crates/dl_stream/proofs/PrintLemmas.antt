@@ -3,8 +3,6 @@ use Rattle.std.proofs.Common.{◌≡◌, ℕ, zero, suc, ◌+◌, ◌<◌, ◌�
 use Rattle.std.specs.List.{flat_map}
 use Rattle.std.proofs.lemmas.List.{append-nil}
 use Rattle.dl_io.specs.declared.devices.Failed.{Failed}
-use Rattle.dl_io.specs.Count.{HasRisen}
-use Rattle.dl_io.specs.Writing.{Gets, GetsPrefix}
 use Rattle.dl_io.proofs.Got.{Gets-nil, Gets-append, GetsPrefix-front, GetsPrefix-append}
 use Rattle.dl_stream.specs.Printing.{Prints}
 

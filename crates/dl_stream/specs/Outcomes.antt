@@ -1,5 +1,5 @@
 -- The lines of what becomes of a command. Their form is this project's own.
-use Rattle.std.specs.Prelude.{ℕ, ◌≡◌, List, [], ◌∷◌, ◌++◌, length, codes, IfSome}
+use Rattle.std.specs.Prelude.{ℕ, ◌≡◌, List, [], ◌∷◌, ◌++◌, length, map, codes, IfSome}
 use Rattle.std.specs.declared.option.Option.{Option}
 use Rattle.std.specs.declared.option.Option.TheVariants.{Some, None}
 use Rattle.std.specs.List.{flat_map}
@@ -17,35 +17,35 @@ use Rattle.dl_core.specs.declared.reply.Reply.{Reply}
 use Rattle.dl_core.specs.declared.reply.Reply.TheVariants.{Committed, Pinned, Unpinned, Migrated, Swept, Reclaimed, Looked as Look, Refused}
 use Rattle.dl_stream.specs.declared.outcome.Outcome.{Outcome}
 use Rattle.dl_stream.specs.declared.outcome.Outcome.TheVariants as outcome
-use Rattle.dl_stream.specs.Lines.{line, tuple_line, broken_text, broken_names, predicate_lines, row_line, individuals}
+use Rattle.dl_stream.specs.Lines.{words_line, tuple_line, broken_text, broken_names, predicate_lines, row_line, individuals}
 
 -- ---- events
 
 -- the line of an event at its place, in these words
 abbrev pub placed_line : ℕ → List Text → Text
-placed_line place words = line (codes "place " ∷ decimal place ∷ words)
+placed_line place words = words_line (codes "place" ∷ decimal place ∷ words)
 
 -- why an event is refused
 abbrev pub refusal_words : Refusal → List Text
-refusal_words (TooManyAxioms weight) = codes " too many axioms " ∷ decimal weight ∷ []
-refusal_words (TooManyPredicates count) = codes " too many predicates " ∷ decimal count ∷ []
-refusal_words (TooManyEpochs kept) = codes " too many epochs " ∷ decimal kept ∷ []
-refusal_words (Full kept new) = codes " full kept " ∷ decimal kept ∷ codes " new " ∷ decimal new ∷ []
-refusal_words (PinOpen version) = codes " pin open version " ∷ decimal version ∷ []
-refusal_words NoPin = codes " no pin" ∷ []
-refusal_words (NoShard shard) = codes " no shard " ∷ decimal shard ∷ []
+refusal_words (TooManyAxioms weight) = codes "too many axioms" ∷ decimal weight ∷ []
+refusal_words (TooManyPredicates count) = codes "too many predicates" ∷ decimal count ∷ []
+refusal_words (TooManyEpochs kept) = codes "too many epochs" ∷ decimal kept ∷ []
+refusal_words (Full kept new) = codes "full kept" ∷ decimal kept ∷ codes "new" ∷ decimal new ∷ []
+refusal_words (PinOpen version) = codes "pin open version" ∷ decimal version ∷ []
+refusal_words NoPin = codes "no pin" ∷ []
+refusal_words (NoShard shard) = codes "no shard" ∷ decimal shard ∷ []
 
--- the epochs that were dropped, or that there are none
-abbrev pub dropped_text : List ℕ → Text
-dropped_text [] = codes " none"
-dropped_text ids = flat_map (λ id. 32 ∷ decimal id) ids
+-- the ids of the epochs that were dropped, or that there are none
+abbrev pub dropped_words : List ℕ → List Text
+dropped_words [] = codes "none" ∷ []
+dropped_words ids = map decimal ids
 
 -- the counts of a look
 abbrev pub count_words : Looked → List Text
 count_words look =
-    codes " look version " ∷ decimal look.version ∷ codes " epoch " ∷ decimal look.epoch ∷ codes " epochs "
-    ∷ decimal look.epochs ∷ codes " kept " ∷ decimal look.kept ∷ codes " visible " ∷ decimal look.visible
-    ∷ codes " old " ∷ decimal look.behind ∷ []
+    codes "look version" ∷ decimal look.version ∷ codes "epoch" ∷ decimal look.epoch ∷ codes "epochs"
+    ∷ decimal look.epochs ∷ codes "kept" ∷ decimal look.kept ∷ codes "visible" ∷ decimal look.visible ∷ codes "old"
+    ∷ decimal look.behind ∷ []
 
 -- what a look shows behind its counts: the predicates of the current epoch, and the rows
 abbrev pub shown_text : List Text → Looked → Text
@@ -56,14 +56,14 @@ shown_text names look =
 -- what a stream was told at a place
 abbrev pub reply_text : List Text → ℕ → Reply → Text
 reply_text names place (Committed version epoch) =
-    placed_line place (codes " commit version " ∷ decimal version ∷ codes " epoch " ∷ decimal epoch ∷ [])
-reply_text names place (Pinned version) = placed_line place (codes " pin version " ∷ decimal version ∷ [])
-reply_text names place (Unpinned version) = placed_line place (codes " unpin version " ∷ decimal version ∷ [])
+    placed_line place (codes "commit version" ∷ decimal version ∷ codes "epoch" ∷ decimal epoch ∷ [])
+reply_text names place (Pinned version) = placed_line place (codes "pin version" ∷ decimal version ∷ [])
+reply_text names place (Unpinned version) = placed_line place (codes "unpin version" ∷ decimal version ∷ [])
 reply_text names place (Migrated moved left) =
-    placed_line place (codes " migrate moved " ∷ decimal moved ∷ codes " left " ∷ decimal left ∷ [])
+    placed_line place (codes "migrate moved" ∷ decimal moved ∷ codes "left" ∷ decimal left ∷ [])
 reply_text names place (Swept dropped left) =
-    placed_line place (codes " sweep dropped " ∷ decimal dropped ∷ codes " left " ∷ decimal left ∷ [])
-reply_text names place (Reclaimed ids) = placed_line place (codes " reclaim" ∷ dropped_text ids ∷ [])
+    placed_line place (codes "sweep dropped" ∷ decimal dropped ∷ codes "left" ∷ decimal left ∷ [])
+reply_text names place (Reclaimed ids) = placed_line place (codes "reclaim" ∷ dropped_words ids)
 reply_text names place (Look look) = placed_line place (count_words look) ++ shown_text names look
 reply_text names place (Refused refusal) = placed_line place (refusal_words refusal)
 
@@ -77,15 +77,15 @@ reply_names reply = []
 -- the line of a query that was asked at the place of a pin, in these words
 abbrev pub asked_line : (place version : ℕ) → List Text → Text
 asked_line place version words =
-    line (codes "ask place " ∷ decimal place ∷ codes " version " ∷ decimal version ∷ words)
+    words_line (codes "ask place" ∷ decimal place ∷ codes "version" ∷ decimal version ∷ words)
 
 -- what a query is answered
 abbrev pub answer_text : List Text → (place : ℕ) → Answer → Text
 answer_text names place (answer.Found version tuples) =
-    asked_line place version (codes " answers " ∷ decimal (length tuples.tuples) ∷ [])
+    asked_line place version (codes "answers" ∷ decimal (length tuples.tuples) ∷ [])
     ++ flat_map (tuple_line names) tuples.tuples
 answer_text names place (answer.Inconsistent version broken) =
-    asked_line place version (codes " inconsistent " ∷ broken_text names broken ∷ [])
+    asked_line place version (codes "inconsistent" ∷ broken_text names broken ∷ [])
 
 -- the names in it
 abbrev pub answer_names : Answer → List ℕ
@@ -94,10 +94,10 @@ answer_names (answer.Inconsistent version broken) = broken_names broken
 
 -- why a query has no answer, where this was its limit
 abbrev pub fault_text : (place limit : ℕ) → AskFault → Text
-fault_text place limit ask.NoPin = line (codes "ask no pin" ∷ [])
+fault_text place limit ask.NoPin = words_line (codes "ask no pin" ∷ [])
 fault_text place limit (ask.TooMany version) =
-    asked_line place version (codes " more than " ∷ decimal limit ∷ codes " answers" ∷ [])
-fault_text place limit ask.NoMemory = line (codes "ask no memory" ∷ [])
+    asked_line place version (codes "more than" ∷ decimal limit ∷ codes "answers" ∷ [])
+fault_text place limit ask.NoMemory = words_line (codes "ask no memory" ∷ [])
 
 -- ---- commands
 
@@ -111,8 +111,8 @@ abbrev pub outcome_text : List Text → Option Placed → ℕ → Outcome → Te
 outcome_text names pinned limit (outcome.Placed placed) = reply_text names placed.place placed.reply
 outcome_text names pinned limit (outcome.Asked answer) = answer_text names (place_of pinned) answer
 outcome_text names pinned limit (outcome.AskRefused fault) = fault_text (place_of pinned) limit fault
-outcome_text names pinned limit outcome.Spent = line (codes "spent" ∷ [])
-outcome_text names pinned limit outcome.NoMemory = line (codes "no memory" ∷ [])
+outcome_text names pinned limit outcome.Spent = words_line (codes "spent" ∷ [])
+outcome_text names pinned limit outcome.NoMemory = words_line (codes "no memory" ∷ [])
 
 -- the names in it
 abbrev pub outcome_names : Outcome → List ℕ

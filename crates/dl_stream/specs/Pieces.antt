@@ -1,9 +1,11 @@
 -- The pieces in which lines are printed.
-use Rattle.std.specs.Prelude.{ℕ, zero, suc, List, [], ◌∷◌, codes}
+use Rattle.std.specs.Prelude.{ℕ, zero, suc, ◌==◌, List, [], ◌∷◌, ◌++◌, codes, if◌then◌else◌}
 use Rattle.std.specs.Fmt.{decimal}
 use Rattle.dl_names.specs.NameList.{Text}
 use Rattle.dl_terms.specs.Occurring.{role_names}
 use Rattle.dl_owl.specs.AxiomText.{iri_text, class_text, role_text}
+use Rattle.dl_row.specs.declared.row.Row.{Row}
+use Rattle.dl_stream.specs.Lines.{line, spaced, fact_words}
 use Rattle.dl_stream.specs.declared.pieces.Piece.{Piece}
 use Rattle.dl_stream.specs.declared.pieces.Piece.TheVariants as piece
 
@@ -26,3 +28,10 @@ piece_names (piece.Role role) = role_names role
 abbrev pub separator : ℕ → Text
 separator zero = []
 separator (suc column) = codes ", "
+
+-- the beginning of the line of a row, and the rest of it
+abbrev pub row_start : (current carried : ℕ) → Text
+row_start current carried = if carried == current then codes "row" else codes "old " ++ decimal carried
+
+abbrev pub row_rest : List Text → Row → Text
+row_rest names row = line (spaced (fact_words names row))

@@ -43,7 +43,7 @@ pub(crate) fn put_too_many<S: Sink>(
     names: &Names,
 ) -> Result<(), Failed>
     ensures { Prints result (S.got sink.old) (S.got sink.new) (S.faults sink.old) (S.faults sink.new)
-        (asked_line place version (codes " more than " ∷ decimal limit ∷ codes " answers" ∷ [])) }
+        (asked_line place version (codes "more than" ∷ decimal limit ∷ codes "answers" ∷ [])) }
 {
     put_all(
         sink,
@@ -70,7 +70,7 @@ fn put_found<S: Sink>(
 ) -> Result<(), Failed>
     requires { AreBelow (length names.now) (flat_map (λ tuple. tuple) tuples.now.tuples) }
     ensures { Prints result (S.got sink.old) (S.got sink.new) (S.faults sink.old) (S.faults sink.new)
-        (asked_line place version (codes " answers " ∷ decimal (length tuples.now.tuples) ∷ [])
+        (asked_line place version (codes "answers" ∷ decimal (length tuples.now.tuples) ∷ [])
         ++ flat_map (tuple_line names.now) tuples.now.tuples) }
 {
     put_all(
@@ -99,7 +99,7 @@ fn put_inconsistent<S: Sink>(
 ) -> Result<(), Failed>
     requires { AreBelow (length names.now) (broken_names broken.now) }
     ensures { Prints result (S.got sink.old) (S.got sink.new) (S.faults sink.old) (S.faults sink.new)
-        (asked_line place version (codes " inconsistent " ∷ broken_text names.now broken.now ∷ [])) }
+        (asked_line place version (codes "inconsistent" ∷ broken_text names.now broken.now ∷ [])) }
 {
     put_all(
         sink,

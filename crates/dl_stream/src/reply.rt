@@ -1,10 +1,11 @@
 // The lines of replies, printed to a sink. It takes no memory.
-ghost use Rattle.std.specs.Prelude.{◌++◌, ◌∷◌, [], length, codes};
+ghost use Rattle.std.specs.Prelude.{◌++◌, ◌∷◌, [], length, map, codes};
 ghost use Rattle.std.specs.List.{flat_map};
 ghost use Rattle.std.specs.Fmt.{decimal};
 ghost use Rattle.dl_owl.specs.AxiomText.{AreBelow};
-ghost use Rattle.dl_stream.specs.Lines.{predicate_lines, row_line, fact_line, individuals, epoch_words};
-ghost use Rattle.dl_stream.specs.Outcomes.{placed_line, refusal_words, dropped_text, count_words, shown_text, reply_text, reply_names};
+ghost use Rattle.dl_stream.specs.Lines.{predicate_lines, row_line, individuals};
+ghost use Rattle.dl_stream.specs.Outcomes.{placed_line, refusal_words, dropped_words, count_words, shown_text, reply_text, reply_names};
+ghost use Rattle.dl_stream.specs.Pieces.{row_start, row_rest};
 ghost use Rattle.dl_stream.specs.Printing.{Prints};
 
 use crate::pieces::{Piece, put_all};
@@ -28,38 +29,22 @@ pub(crate) fn put_reply<S: Sink>(
         Reply::Committed { version, epoch } => put_two(
             sink,
             place,
-            " commit version ",
+            "commit version",
             *version as u64,
-            " epoch ",
+            "epoch",
             *epoch as u64,
             names,
         ),
-        Reply::Pinned { version } => put_one(sink, place, " pin version ", *version as u64, names),
-        Reply::Unpinned { version } => put_one(
-            sink,
-            place,
-            " unpin version ",
-            *version as u64,
-            names,
-        ),
-        Reply::Migrated { moved, left } => put_two(
-            sink,
-            place,
-            " migrate moved ",
-            *moved,
-            " left ",
-            *left,
-            names,
-        ),
-        Reply::Swept { dropped, left } => put_two(
-            sink,
-            place,
-            " sweep dropped ",
-            *dropped,
-            " left ",
-            *left,
-            names,
-        ),
+        Reply::Pinned { version } => put_one(sink, place, "pin version", *version as u64, names),
+        Reply::Unpinned { version } => {
+            put_one(sink, place, "unpin version", *version as u64, names)
+        }
+        Reply::Migrated { moved, left } => {
+            put_two(sink, place, "migrate moved", *moved, "left", *left, names)
+        }
+        Reply::Swept { dropped, left } => {
+            put_two(sink, place, "sweep dropped", *dropped, "left", *left, names)
+        }
         Reply::Reclaimed { ids } => put_reclaimed(sink, place, ids.as_slice(), names),
         Reply::Looked(look) => put_looked(sink, place, look, names),
         Reply::Refused(refusal) => put_refusal(sink, place, *refusal, names),
@@ -77,54 +62,55 @@ fn put_refusal<S: Sink>(
         (placed_line place (refusal_words refusal)) }
 {
     match refusal {
-        Refusal::TooManyAxioms { weight } => put_one(
-            sink,
-            place,
-            " too many axioms ",
-            weight,
-            names,
-        ),
+        Refusal::TooManyAxioms { weight } => put_one(sink, place, "too many axioms", weight, names),
         Refusal::TooManyPredicates { count } => put_one(
             sink,
             place,
-            " too many predicates ",
+            "too many predicates",
             count,
             names,
         ),
         Refusal::TooManyEpochs { kept } => put_one(
             sink,
             place,
-            " too many epochs ",
+            "too many epochs",
             kept as u64,
             names,
         ),
-        Refusal::Full { kept, new } => put_two(
-            sink,
-            place,
-            " full kept ",
-            kept,
-            " new ",
-            new,
-            names,
-        ),
+        Refusal::Full { kept, new } => put_two(sink, place, "full kept", kept, "new", new, names),
         Refusal::PinOpen { version } => put_one(
             sink,
             place,
-            " pin open version ",
+            "pin open version",
             version as u64,
             names,
         ),
-        Refusal::NoPin => put_all(
-            sink,
-            &[
-                Piece::Text("place "),
-                Piece::Number(place),
-                Piece::Text(" no pin\n"),
-            ],
-            names,
-        ),
-        Refusal::NoShard { shard } => put_one(sink, place, " no shard ", shard as u64, names),
+        Refusal::NoPin => put_plain(sink, place, "no pin", names),
+        Refusal::NoShard { shard } => put_one(sink, place, "no shard", shard as u64, names),
     }
+}
+
+/// Prints the line of a place in these words.
+fn put_plain<S: Sink>(
+    sink: &mut S,
+    place: u64,
+    words: &'static str,
+    names: &Names,
+) -> Result<(), Failed>
+    ensures { Prints result (S.got sink.old) (S.got sink.new) (S.faults sink.old) (S.faults sink.new)
+        (placed_line place (words.now ∷ [])) }
+{
+    put_all(
+        sink,
+        &[
+            Piece::Text("place "),
+            Piece::Number(place),
+            Piece::Text(" "),
+            Piece::Text(words),
+            Piece::Text("\n"),
+        ],
+        names,
+    )
 }
 
 /// Prints the line of a place, with a number behind these words.
@@ -143,7 +129,9 @@ fn put_one<S: Sink>(
         &[
             Piece::Text("place "),
             Piece::Number(place),
+            Piece::Text(" "),
             Piece::Text(words),
+            Piece::Text(" "),
             Piece::Number(number),
             Piece::Text("\n"),
         ],
@@ -169,9 +157,13 @@ fn put_two<S: Sink>(
         &[
             Piece::Text("place "),
             Piece::Number(place),
+            Piece::Text(" "),
             Piece::Text(words),
+            Piece::Text(" "),
             Piece::Number(number),
+            Piece::Text(" "),
             Piece::Text(next_words),
+            Piece::Text(" "),
             Piece::Number(next),
             Piece::Text("\n"),
         ],
@@ -187,7 +179,7 @@ fn put_reclaimed<S: Sink>(
     names: &Names,
 ) -> Result<(), Failed>
     ensures { Prints result (S.got sink.old) (S.got sink.new) (S.faults sink.old) (S.faults sink.new)
-        (placed_line place (codes " reclaim" ∷ dropped_text ids.now ∷ [])) }
+        (placed_line place (codes "reclaim" ∷ dropped_words ids.now)) }
 {
     put_all(
         sink,
@@ -205,7 +197,7 @@ fn put_reclaimed<S: Sink>(
 /// Prints the ids of epochs that were dropped, each behind a space.
 fn put_dropped<S: Sink>(sink: &mut S, ids: &[u32], names: &Names) -> Result<(), Failed>
     ensures { Prints result (S.got sink.old) (S.got sink.new) (S.faults sink.old) (S.faults sink.new)
-        (dropped_text ids.now) }
+        (flat_map (λ word. 32 ∷ word) (dropped_words ids.now)) }
 {
     if ids.is_empty() {
         return put_all(sink, &[Piece::Text(" none")], names);
@@ -216,7 +208,7 @@ fn put_dropped<S: Sink>(sink: &mut S, ids: &[u32], names: &Names) -> Result<(), 
 /// Prints ids, each behind a space.
 fn put_ids<S: Sink>(sink: &mut S, ids: &[u32], names: &Names) -> Result<(), Failed>
     ensures { Prints result (S.got sink.old) (S.got sink.new) (S.faults sink.old) (S.faults sink.new)
-        (flat_map (λ id. 32 ∷ decimal id) ids.now) }
+        (flat_map (λ word. 32 ∷ word) (map decimal ids.now)) }
 {
     for id in ids {
         put_all(sink, &[Piece::Text(" "), Piece::Number(*id as u64)], names)?;
@@ -317,7 +309,7 @@ fn put_row<S: Sink>(sink: &mut S, current: u32, row: &Row, names: &Names) -> Res
 /// Prints what a row carries: the current epoch, or which other one.
 fn put_epoch<S: Sink>(sink: &mut S, current: u32, carried: u32, names: &Names) -> Result<(), Failed>
     ensures { Prints result (S.got sink.old) (S.got sink.new) (S.faults sink.old) (S.faults sink.new)
-        (epoch_words current carried) }
+        (row_start current carried) }
 {
     if carried == current {
         return put_all(sink, &[Piece::Text("row")], names);
@@ -333,7 +325,7 @@ fn put_epoch<S: Sink>(sink: &mut S, current: u32, carried: u32, names: &Names) -
 fn put_fact<S: Sink>(sink: &mut S, row: &Row, names: &Names) -> Result<(), Failed>
     requires { AreBelow (length names.now) (individuals row.now) }
     ensures { Prints result (S.got sink.old) (S.got sink.new) (S.faults sink.old) (S.faults sink.new)
-        (fact_line names.now row.now) }
+        (row_rest names.now row.now) }
 {
     let number = Piece::Number(row.number as u64);
     match row.kind {

@@ -2,7 +2,7 @@ use Rattle.std.proofs.Common.{length}
 use Rattle.std.specs.List.{flat_map}
 use Rattle.dl_terms.specs.Occurring.{basic_names, part_names}
 use Rattle.dl_owl.specs.AxiomText.{basic_text, parts_text}
-use Rattle.dl_owl.proofs.TextLemmas.{below_right, below_each}
+use Rattle.dl_owl.proofs.TextLemmas.{below_right}
 use Rattle.dl_stream.proofs.ConstructLemmas.{two_joined}
 use Rattle.dl_stream.proofs.PrintLemmas.{prints_as, prints_failed, prints_then}
 use Rattle.dl_stream.proofs.axiom_text.put_inclusion.Goals as goal

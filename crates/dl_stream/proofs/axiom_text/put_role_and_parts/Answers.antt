@@ -4,7 +4,7 @@ use Rattle.dl_terms.specs.Occurring.{role_names, part_names}
 use Rattle.dl_owl.specs.AxiomText.{role_text, parts_text}
 use Rattle.dl_owl.proofs.TextLemmas.{below_left, below_right}
 use Rattle.dl_stream.proofs.BelowLemmas.{below_same}
-use Rattle.dl_stream.proofs.ConstructLemmas.{two_joined, role_spaced}
+use Rattle.dl_stream.proofs.ConstructLemmas.{role_spaced}
 use Rattle.dl_stream.proofs.PrintLemmas.{prints_as, prints_failed, prints_then}
 use Rattle.dl_stream.proofs.axiom_text.put_role_and_parts.Goals as goal
 
