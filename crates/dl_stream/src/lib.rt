@@ -8,6 +8,7 @@ mod outcome;
 mod pieces;
 mod reply;
 mod streams;
+pub mod worked_examples;
 
 pub use outcome::{Outcome, print_outcome};
 pub use pieces::print_name;
