@@ -1,3 +1,10 @@
+pub mod CutLemmas
+pub mod NumberLemmas
+pub mod UniqueLemmas
+pub mod TextLemmas
+pub mod SaidLemmas
+pub mod OwlLemmas
+pub mod FitLemmas
 pub mod PrintLemmas
 pub mod ConstructLemmas
 pub mod BelowLemmas

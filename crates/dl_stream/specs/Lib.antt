@@ -1,3 +1,9 @@
+pub mod FileLines
+pub mod Forms
+pub mod Edits
+pub mod Reading
+pub mod Commands
+pub mod Parts
 pub mod Printing
 pub mod Lines
 pub mod Outcomes
