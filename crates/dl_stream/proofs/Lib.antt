@@ -9,3 +9,8 @@ pub mod PrintLemmas
 pub mod ConstructLemmas
 pub mod BelowLemmas
 pub mod LineLemmas
+pub mod DrawLemmas
+pub mod GeneratedNameLemmas
+pub mod GeneratedListLemmas
+pub mod StreamTextLemmas
+pub mod GeneratedInputLemmas

@@ -10,3 +10,6 @@ pub mod Outcomes
 pub mod Pieces
 pub mod Transcript
 pub mod Examples
+pub mod Generator
+pub mod Steps
+pub mod StreamText
