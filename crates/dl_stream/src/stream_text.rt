@@ -4,7 +4,8 @@ ghost use Rattle.std.specs.List.{flat_map};
 ghost use Rattle.std.specs.Fmt.{decimal};
 ghost use Rattle.dl_terms.specs.Occurring.{fact_names, query_names};
 ghost use Rattle.dl_owl.specs.AxiomText.{AreBelow, iri_text};
-ghost use Rattle.dl_stream.specs.StreamText.{line_of, rows_text, query_text, fact_text, item_text, edit_text, event_text, command_text, stream_text, streams_text, item_names, event_names, command_names, streams_names};
+ghost use Rattle.dl_stream.specs.Commands.{item_names};
+ghost use Rattle.dl_stream.specs.StreamText.{line_of, rows_text, query_text, fact_text, item_text, edit_text, event_text, command_text, stream_text, streams_text, event_names, command_names, streams_names};
 
 use crate::query_text::{push_iri, push_number, push_query};
 use crate::{Command, Streams};

@@ -1,6 +1,7 @@
 use Rattle.std.proofs.Common.{length, ap}
 use Rattle.dl_owl.proofs.TextLemmas.{items_below}
-use Rattle.dl_stream.specs.StreamText.{item_names, event_names}
+use Rattle.dl_stream.specs.Commands.{item_names}
+use Rattle.dl_stream.specs.StreamText.{event_names}
 use Rattle.dl_stream.proofs.stream_text.push_event.Goals as goal
 
 pub push_commit-requires : goal.push_commit-requires
