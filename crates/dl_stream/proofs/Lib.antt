@@ -14,3 +14,8 @@ pub mod GeneratedNameLemmas
 pub mod GeneratedListLemmas
 pub mod StreamTextLemmas
 pub mod GeneratedInputLemmas
+pub mod VariableBack
+pub mod QueryBack
+pub mod QueryTokens
+pub mod QueryReadBack
+pub mod FactReadBack

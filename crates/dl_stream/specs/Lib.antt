@@ -13,3 +13,4 @@ pub mod Examples
 pub mod Generator
 pub mod Steps
 pub mod StreamText
+pub mod ReadBack

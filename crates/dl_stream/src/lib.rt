@@ -26,6 +26,7 @@ mod reply;
 mod said;
 mod stream_text;
 mod streams;
+mod text_laws;
 pub mod worked_examples;
 
 pub use fault::{Kind, StreamFault};
@@ -36,3 +37,4 @@ pub use pieces::print_name;
 pub use reading::read_streams;
 pub use stream_text::print_streams;
 pub use streams::{Command, Streams};
+pub use text_laws::{facts_are_read_back, queries_are_read_back};
