@@ -9,7 +9,7 @@ use Rattle.dl_terms.specs.Occurring.{axiom_names, fact_names}
 use Rattle.dl_terms.specs.Queries.{IsWellFormed}
 use Rattle.dl_owl.specs.AxiomText.{AreBelow}
 use Rattle.dl_core.specs.Next.{ItemHasNoFiller}
-use Rattle.dl_stream.specs.StreamText.{streams_names}
+use Rattle.dl_stream.specs.Commands.{ItemBelow, CommandBelow}
 use Rattle.dl_stream.specs.Generator.{next_state, drawn, individual, role, class_below, role_below, class_filled, first_domain, generated_axioms, generated_edits, drawn_fact, behind_fact, drawn_facts, generated_query, generated_commands}
 
 -- what holds of each item that is made, holds of all
@@ -82,11 +82,18 @@ fact_names_below size x (suc n) some =
     All-cons (λ f. AreBelow (40 + size) (fact_names f)) (drawn_fact size x) (drawn_facts size (behind_fact size x) n) (fact_below size x some)
     (fact_names_below size (behind_fact size x) n some)
 
-pub stream_names_below : (size : ℕ) → AreBelow (40 + size) (streams_names (generated_commands size ∷ []))
-stream_names_below size =
-    below (40 + size)
-    (0 ∷ role size 0 ∷ 1 ∷ 0 ∷ 31 ∷ 0 ∷ 0 ∷ role size 0 ∷ 0 ∷ role size 0 ∷ [])
-    (omega arith, (omega arith, (omega arith, (omega arith, (omega arith, (omega arith, (omega arith, (omega arith, (omega arith, (omega arith, tt))))))))))
+pub command_names_below : (size : ℕ) → All (CommandBelow (40 + size)) (generated_commands size)
+command_names_below size =
+    All-from_recursion (CommandBelow (40 + size)) (generated_commands size)
+    (tt, (asked, (edited, (tt, (tt, (tt, (tt, (asked, (tt, (tt, (asked, (tt, (tt, (tt, (tt, (tt, (tt, tt)))))))))))))))))
+  where
+    asked : AreBelow (40 + size) (0 ∷ role size 0 ∷ [])
+    asked = below (40 + size) (0 ∷ role size 0 ∷ []) (omega arith, (omega arith, tt))
+
+    edited : All (λ e. ItemBelow (40 + size) e.item) generated_edits
+    edited =
+        All-from_recursion (λ e. ItemBelow (40 + size) e.item) generated_edits
+        (below (40 + size) (1 ∷ 0 ∷ []) (omega arith, (omega arith, tt)), (below (40 + size) (31 ∷ 0 ∷ []) (omega arith, (omega arith, tt)), tt))
 
 pub edits_without_filler : All (λ e. ItemHasNoFiller e.item) generated_edits
 edits_without_filler =

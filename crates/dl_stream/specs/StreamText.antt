@@ -10,7 +10,6 @@ use Rattle.dl_terms.specs.declared.query.Term.TheVariants.{Var, Name}
 use Rattle.dl_terms.specs.declared.query.Atom.{Atom}
 use Rattle.dl_terms.specs.declared.query.Atom.TheVariants as atom
 use Rattle.dl_terms.specs.declared.query.Query.{Query}
-use Rattle.dl_terms.specs.Occurring.{query_names}
 use Rattle.dl_triples.specs.Meaning.{rdf_type}
 use Rattle.dl_owl.specs.AxiomText.{iri_text, axiom_text}
 use Rattle.dl_core.specs.declared.event.Edit.{Edit}
@@ -20,7 +19,6 @@ use Rattle.dl_core.specs.declared.event.Event.{Event}
 use Rattle.dl_core.specs.declared.event.Event.TheVariants.{Commit, Pin, Unpin, Migrate, Sweep, Reclaim, Look}
 use Rattle.dl_stream.specs.declared.streams.Command.{Command}
 use Rattle.dl_stream.specs.declared.streams.Command.TheVariants.{Put, Ask}
-use Rattle.dl_stream.specs.Commands.{item_names}
 
 -- texts with a comma and a space between them
 abbrev pub comma_joined : List Text → Text
@@ -90,20 +88,3 @@ module _ (names : List Text) where
 
   abbrev pub streams_text : List (List Command) → Text
   streams_text streams = flat_map stream_text streams
-
--- the names of events and commands
-abbrev pub event_names : Event → List ℕ
-event_names (Commit edits) = flat_map (λ e. item_names e.item) edits
-event_names Pin = []
-event_names Unpin = []
-event_names (Migrate shard n) = []
-event_names (Sweep shard n) = []
-event_names Reclaim = []
-event_names (Look n) = []
-
-abbrev pub command_names : Command → List ℕ
-command_names (Put e) = event_names e
-command_names (Ask q limit) = query_names q
-
-abbrev pub streams_names : List (List Command) → List ℕ
-streams_names streams = flat_map (λ commands. flat_map command_names commands) streams

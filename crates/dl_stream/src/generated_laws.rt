@@ -1,11 +1,11 @@
 // Laws of the generated input.
-ghost use Rattle.std.specs.Prelude.{ℕ, ◌+◌, ◌<◌, ◌≡◌, ◌∷◌, [], All, length};
+ghost use Rattle.std.specs.Prelude.{ℕ, ◌+◌, ◌<◌, ◌≡◌, All, length};
 ghost use Rattle.dl_terms.specs.Fillers.{HasNoFiller};
 ghost use Rattle.dl_terms.specs.Occurring.{axiom_names, fact_names};
 ghost use Rattle.dl_terms.specs.Queries.{IsWellFormed};
 ghost use Rattle.dl_owl.specs.AxiomText.{AreBelow};
 ghost use Rattle.dl_core.specs.Next.{ItemHasNoFiller};
-ghost use Rattle.dl_stream.specs.StreamText.{streams_names};
+ghost use Rattle.dl_stream.specs.Commands.{CommandBelow};
 ghost use Rattle.dl_stream.specs.Generator.{name_texts, generated_axioms, drawn_facts, generated_commands, generated_edits, generated_query};
 
 /// A law: the generated input meets what loading, printing and asking want. All its names are among the names, no axiom
@@ -19,5 +19,5 @@ pub fn generated_input_is_fit()
         → All (λ stated. AreBelow (40 + size) (axiom_names stated)) (generated_axioms size) }
     ensures fact_names { (size state n : ℕ) → 0 < size
         → All (λ fact. AreBelow (40 + size) (fact_names fact)) (drawn_facts size state n) }
-    ensures stream_names { (size : ℕ) → AreBelow (40 + size) (streams_names (generated_commands size ∷ [])) }
+    ensures command_names { (size : ℕ) → All (CommandBelow (40 + size)) (generated_commands size) }
 {}

@@ -4,8 +4,8 @@ ghost use Rattle.std.specs.List.{flat_map};
 ghost use Rattle.std.specs.Fmt.{decimal};
 ghost use Rattle.dl_terms.specs.Occurring.{fact_names, query_names};
 ghost use Rattle.dl_owl.specs.AxiomText.{AreBelow, iri_text};
-ghost use Rattle.dl_stream.specs.Commands.{item_names};
-ghost use Rattle.dl_stream.specs.StreamText.{line_of, rows_text, query_text, fact_text, item_text, edit_text, event_text, command_text, stream_text, streams_text, event_names, command_names, streams_names};
+ghost use Rattle.dl_stream.specs.Commands.{ItemBelow, EventBelow, CommandBelow};
+ghost use Rattle.dl_stream.specs.StreamText.{line_of, rows_text, query_text, fact_text, item_text, edit_text, event_text, command_text, stream_text, streams_text};
 
 use crate::query_text::{push_iri, push_number, push_query};
 use crate::{Command, Streams};
@@ -52,7 +52,7 @@ fn push_declared(out: &mut String, opening: &str, n: u32, names: &Names) -> Resu
 
 /// What is added or removed.
 fn push_item(alloc: Global, out: &mut String, item: &Item, names: &Names) -> Result<(), NoMemory>
-    requires { AreBelow (length names.now) (item_names item.now) }
+    requires { ItemBelow (length names.now) item.now }
     ensures { OnOk result (string_bytes out.new ≡ string_bytes out.old ++ item_text names.now item.now) }
 {
     match item {
@@ -76,7 +76,7 @@ fn sign(add: bool) -> &'static str
 
 /// An edit as a line.
 fn push_edit(alloc: Global, out: &mut String, edit: &Edit, names: &Names) -> Result<(), NoMemory>
-    requires { AreBelow (length names.now) (item_names edit.now.item) }
+    requires { ItemBelow (length names.now) edit.now.item }
     ensures { OnOk result (string_bytes out.new ≡
         string_bytes out.old ++ line_of (edit_text names.now edit.now)) }
 {
@@ -93,7 +93,7 @@ fn push_commit(
     edits: &[Edit],
     names: &Names,
 ) -> Result<(), NoMemory>
-    requires { All (λ edit. AreBelow (length names.now) (item_names edit.item)) edits.now }
+    requires { All (λ edit. ItemBelow (length names.now) edit.item) edits.now }
     ensures { OnOk result (string_bytes out.new ≡ string_bytes out.old
         ++ (line_of (codes "commit")
         ++ (flat_map (λ edit. line_of (edit_text names.now edit)) edits.now ++ line_of (codes "end")))) }
@@ -129,7 +129,7 @@ fn push_look(out: &mut String, rows: u64) -> Result<(), AllocError>
 
 /// An event.
 fn push_event(alloc: Global, out: &mut String, event: &Event, names: &Names) -> Result<(), NoMemory>
-    requires { AreBelow (length names.now) (event_names event.now) }
+    requires { EventBelow (length names.now) event.now }
     ensures { OnOk result (string_bytes out.new ≡ string_bytes out.old ++ event_text names.now event.now) }
 {
     match event {
@@ -164,7 +164,7 @@ fn push_command(
     command: &Command,
     names: &Names,
 ) -> Result<(), NoMemory>
-    requires { AreBelow (length names.now) (command_names command.now) }
+    requires { CommandBelow (length names.now) command.now }
     ensures { OnOk result (string_bytes out.new ≡
         string_bytes out.old ++ command_text names.now command.now) }
 {
@@ -182,7 +182,7 @@ fn push_stream(
     commands: &[Command],
     names: &Names,
 ) -> Result<(), NoMemory>
-    requires { All (λ command. AreBelow (length names.now) (command_names command)) commands.now }
+    requires { All (CommandBelow (length names.now)) commands.now }
     ensures { OnOk result (string_bytes out.new ≡ string_bytes out.old ++ stream_text names.now commands.now) }
 {
     out.push_str("stream\n")?;
@@ -199,8 +199,7 @@ fn push_streams(
     streams: &[List<Command>],
     names: &Names,
 ) -> Result<(), NoMemory>
-    requires { All (λ commands. All (λ command. AreBelow (length names.now) (command_names command)) commands)
-        streams.now }
+    requires { All (All (CommandBelow (length names.now))) streams.now }
     ensures { OnOk result (string_bytes out.new ≡ string_bytes out.old ++ streams_text names.now streams.now) }
 {
     for commands in streams {
@@ -213,7 +212,7 @@ fn push_streams(
 /// on by number, and names as full IRIs. The numbers of their names are below `names.len()`. Fails only for want of
 /// memory.
 pub fn print_streams(alloc: Global, streams: &Streams, names: &Names) -> Result<Vec<u8>, NoMemory>
-    requires { AreBelow (length names.now) (streams_names streams.now.lists) }
+    requires { All (All (CommandBelow (length names.now))) streams.now.lists }
     ensures { IfOk result (λ bytes. bytes.items ≡ streams_text names.now streams.now.lists) }
 {
     let mut out = String::new(alloc);

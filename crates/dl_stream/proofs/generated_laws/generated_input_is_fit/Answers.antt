@@ -1,7 +1,7 @@
 use Rattle.std.proofs.Common.{◌+◌}
 use Rattle.std.proofs.lemmas.List.FromFn.{length-map-range_with_len}
 use Rattle.dl_stream.specs.Generator.{name_text}
-use Rattle.dl_stream.proofs.GeneratedInputLemmas.{axioms_without_filler, edits_without_filler, query_formed, axiom_names_below, fact_names_below, stream_names_below}
+use Rattle.dl_stream.proofs.GeneratedInputLemmas.{axioms_without_filler, edits_without_filler, query_formed, axiom_names_below, fact_names_below, command_names_below}
 use Rattle.dl_stream.proofs.generated_laws.generated_input_is_fit.Goals as goal
 
 pub returns : goal.returns
@@ -12,5 +12,5 @@ returns c = record {
   query = query_formed;
   axiom_names = axiom_names_below;
   fact_names = fact_names_below;
-  stream_names = stream_names_below;
+  command_names = command_names_below;
 }

@@ -1,7 +1,8 @@
-use Rattle.std.proofs.Common.{length}
-use Rattle.dl_stream.proofs.StreamTextLemmas.{streams_below}
+use Rattle.std.proofs.Common.{length, sym, subst}
+use Rattle.std.specs.List.{All}
+use Rattle.dl_stream.specs.Commands.{CommandBelow}
 use Rattle.dl_stream.proofs.stream_text.print_streams.Goals as goal
 
 pub push_streams-requires : goal.push_streams-requires
 push_streams-requires c =
-    streams_below (length c.args.names.now) c.args.streams.now.lists c.as_slice.result.now c.as_slice.ensures c.requires
+    subst (All (All (CommandBelow (length c.args.names.now)))) (sym c.as_slice.ensures) c.requires
