@@ -1,6 +1,7 @@
 -- Reading line by line gives the value of the whole, or its first fault.
 use Rattle.std.proofs.Common.{◌≡◌, ◌≢◌, ℕ, ◌+◌, ◌≤◌, List, [], ◌∷◌, ◌++◌, length, Option, Some, None, Bor, Result, Ok, Err, IfOk, IfErr, refl, sym, ap, ◌∙◌, subst, append_assoc, add-zero, arith, length-append}
 use Rattle.dl_names.specs.NameList.{Text, Extends}
+use Rattle.dl_names.proofs.NameListLemmas.{Extends-same, Extends-trans}
 use Rattle.dl_stream.specs.declared.streams.Streams.{Streams}
 use Rattle.dl_stream.specs.declared.streams.Command.{Command}
 use Rattle.dl_core.specs.declared.event.Edit.{Edit}
@@ -49,21 +50,23 @@ pub record Read (bytes rest : List ℕ) (names now : List Text) (n : ℕ) (place
   pub read : AreRead done 1 names outside (shown place) now
   pub number : n ≡ 1 + length done
   pub counted : IsCountedAt place
+  pub grows : Extends names now
   pub fits : n + length rest ≤ length bytes + 1
 
 pub Read-first : (bytes : List ℕ) (names : List Text) → Read bytes bytes names names 1 Outside
-Read-first bytes names = record { done = []; cut = refl; read = none; number = refl; counted = tt; fits = omega arith }
+Read-first bytes names = record { done = []; cut = refl; read = none; number = refl; counted = tt; grows = Extends-same names; fits = omega arith }
 
 module _ (bytes rest : List ℕ) (names now : List Text) (n : ℕ) (place : KeptPlace) (read : Read bytes rest names now n place) (first : List ℕ) where
   -- the line is read, too
-  pub Read-next : (behind : List ℕ) (next : List Text) (after : KeptPlace) → LineThen rest first behind → Gives first n now (shown place) (shown after) next → IsCountedAt after
+  pub Read-next : (behind : List ℕ) (next : List Text) (after : KeptPlace) → LineThen rest first behind → Gives first n now (shown place) (shown after) next → IsCountedAt after → Extends now next
       → Read bytes behind names next (n + 1) after
-  Read-next behind next after then gives counted = record {
+  Read-next behind next after then gives counted grew = record {
     done = read.done ++ first ∷ [];
     cut = read.cut ∙ ap (λ l. read.done ++ l) then.lines ∙ sym (append_assoc read.done (first ∷ []) (lines_of behind));
     read = AreRead-push first n read.read read.number gives;
     number = omega (arith, read.number, length-append read.done (first ∷ []));
     counted = counted;
+    grows = Extends-trans names now next read.grows grew;
     fits = omega (arith, read.fits, then.shorter);
   }
 
@@ -116,6 +119,9 @@ module _ (bytes rest : List ℕ) (names now : List Text) (n : ℕ) (place : Kept
 
     pub Line-part : (held : List Text) → Extends now held → HoldsPart bytes names held
     Line-part held grows = Read-part stand.0 stand.1 held grows
+
+  pub Line-grows : (held : List Text) → Extends now held → Extends names held
+  Line-grows held grew = Extends-trans names now held read.grows grew
 
   -- ---- the end of the bytes
 

@@ -44,14 +44,20 @@ said (Puts e) = puts e
 said (Asks limit text) = asks limit text.now
 
 -- where a line stands, as it is kept
+abbrev pub in_open : Open → Place
+in_open stream = in_stream stream.before stream.commands
+
+abbrev pub in_open_commit : Open → ℕ → List Edit → Place
+in_open_commit stream at made = in_commit stream.before stream.commands at made
+
 abbrev pub shown : KeptPlace → Place
 shown Outside = outside
-shown (InStream stream) = in_stream stream.before stream.commands
-shown (InCommit stream at made) = in_commit stream.before stream.commands at made
+shown (InStream stream) = in_open stream
+shown (InCommit stream at made) = in_open_commit stream at made
 
 -- the count is that of the commands
 pub record IsCounted (stream : Open) : Type 0 where
-  pub count : stream.count ≡ command_count (in_stream stream.before stream.commands)
+  pub count : stream.count ≡ command_count (in_open stream)
   pub few : stream.count ≤ max_commands
 
 abbrev pub IsCountedAt : KeptPlace → Type 0

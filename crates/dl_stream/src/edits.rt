@@ -179,7 +179,8 @@ fn add_classes(classes: &[u32], made: &mut List<Edit>) -> Result<(), NoMemory>
 }
 
 fn add_properties(properties: &[u32], made: &mut List<Edit>) -> Result<(), NoMemory>
-    ensures { OnOk result (made.new ≡ made.old ++ map (λ property. edit true (item.Property property)) properties.now) }
+    ensures { OnOk result (made.new ≡
+        made.old ++ map (λ property. edit true (item.Property property)) properties.now) }
 {
     for property in properties {
         made.push(Edit {

@@ -14,6 +14,7 @@ mod generated_axioms;
 mod generated_laws;
 mod generated_names;
 mod generated_stream;
+pub mod laws;
 mod number;
 mod operand;
 mod outcome;

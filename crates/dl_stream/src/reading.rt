@@ -48,6 +48,7 @@ pub fn read_streams(
     ensures fit { IfOk result (λ streams. All (All IsFit) streams.lists) }
     ensures few { IfOk result (λ streams. length streams.lists ≤ reading.max_streams) }
     ensures fewer { IfOk result (λ streams. sum_by length streams.lists ≤ reading.max_commands) }
+    ensures grows { Extends names.old names.new }
     ensures part { OnErr result (reading.HoldsPart bytes.now names.old names.new) }
 {
     let mut place = Place::Outside;

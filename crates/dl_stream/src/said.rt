@@ -3,8 +3,8 @@ ghost use Rattle.std.specs.Prelude.{◌≡◌, ◌≢◌, ◌<◌, ℕ, List};
 ghost use Rattle.dl_names.specs.NameList.{Text, Extends};
 ghost use Rattle.dl_query.specs.declared.fault.QueryFault.{QueryFault};
 ghost use Rattle.dl_stream.specs.Forms as forms;
-ghost use Rattle.dl_stream.specs.Reading.{outside, in_stream, in_commit, max_commands, query_kind};
-ghost use Rattle.dl_stream.specs.Parts.{said, shown, Comes, IsCounted, IsCountedAt};
+ghost use Rattle.dl_stream.specs.Reading.{outside, max_commands, query_kind};
+ghost use Rattle.dl_stream.specs.Parts.{said, shown, in_open, in_open_commit, Comes, IsCounted, IsCountedAt};
 
 use crate::edits::read_edits;
 use crate::fault::{Kind, StreamFault};
@@ -79,7 +79,7 @@ fn stream_then(
     stream: Open,
 ) -> Result<Place, StreamFault>
     requires { IsCounted stream }
-    ensures comes { Comes n names.old (said form.entry) (in_stream stream.before stream.commands) names.new result }
+    ensures comes { Comes n names.old (said form.entry) (in_open stream) names.new result }
     ensures grows { Extends names.old names.new }
 {
     match form {
@@ -104,7 +104,7 @@ fn commit_then(
 ) -> Result<Place, StreamFault>
     requires counted { IsCounted stream }
     requires few { stream.count < max_commands }
-    ensures comes { Comes n names.old (said form.entry) (in_commit stream.before stream.commands at made) names.new result }
+    ensures comes { Comes n names.old (said form.entry) (in_open_commit stream at made) names.new result }
     ensures grows { Extends names.old names.new }
 {
     match form {
@@ -120,7 +120,7 @@ fn commit_then(
 /// The next stream begins.
 fn next_stream(alloc: Global, n: u64, stream: Open) -> Result<Place, StreamFault>
     requires { IsCounted stream }
-    ensures { (names : List Text) → Comes n names forms.begins (in_stream stream.before stream.commands) names result }
+    ensures { (names : List Text) → Comes n names forms.begins (in_open stream) names result }
 {
     let mut before = stream.before;
     if before.len() >= MAX_STREAMS - 1 {
@@ -152,7 +152,7 @@ fn too_many_commands(n: u64) -> StreamFault
 /// A commit begins.
 fn open_commit(alloc: Global, n: u64, stream: Open) -> Result<Place, StreamFault>
     requires { IsCounted stream }
-    ensures { (names : List Text) → Comes n names forms.opens (in_stream stream.before stream.commands) names result }
+    ensures { (names : List Text) → Comes n names forms.opens (in_open stream) names result }
 {
     if stream.count >= MAX_COMMANDS {
         return Err(too_many_commands(n));
@@ -167,7 +167,7 @@ fn open_commit(alloc: Global, n: u64, stream: Open) -> Result<Place, StreamFault
 /// An event is put.
 fn put(n: u64, stream: Open, event: Event) -> Result<Place, StreamFault>
     requires { IsCounted stream }
-    ensures { (names : List Text) → Comes n names (forms.puts event) (in_stream stream.before stream.commands) names result }
+    ensures { (names : List Text) → Comes n names (forms.puts event) (in_open stream) names result }
 {
     if stream.count >= MAX_COMMANDS {
         return Err(too_many_commands(n));
@@ -190,7 +190,7 @@ fn ask(
     text: &[u8],
 ) -> Result<Place, StreamFault>
     requires { IsCounted stream }
-    ensures comes { Comes n names.old (forms.asks limit text.now) (in_stream stream.before stream.commands) names.new result }
+    ensures comes { Comes n names.old (forms.asks limit text.now) (in_open stream) names.new result }
     ensures grows { Extends names.old names.new }
 {
     if stream.count >= MAX_COMMANDS {
@@ -234,7 +234,7 @@ fn edit(
 ) -> Result<Place, StreamFault>
     requires counted { IsCounted stream }
     requires few { stream.count < max_commands }
-    ensures comes { Comes n names.old (forms.edits add text.now) (in_commit stream.before stream.commands at made) names.new result }
+    ensures comes { Comes n names.old (forms.edits add text.now) (in_open_commit stream at made) names.new result }
     ensures grows { Extends names.old names.new }
 {
     let mut made = made;
@@ -249,7 +249,7 @@ fn close_commit(n: u64, stream: Open, at: u64, made: List<Edit>) -> Result<Place
     requires counted { IsCounted stream }
     requires few { stream.count < max_commands }
     ensures { (names : List Text) →
-        Comes n names forms.closes (in_commit stream.before stream.commands at made) names result }
+        Comes n names forms.closes (in_open_commit stream at made) names result }
 {
     let mut stream = stream;
     let Ok(()) = stream.commands.push(Command::Put(Event::Commit(made))) else {

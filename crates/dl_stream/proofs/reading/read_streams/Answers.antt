@@ -3,7 +3,7 @@ use Rattle.std.proofs.lemmas.Bool.{false≢true}
 use Rattle.std.proofs.lemmas.Result.{err_from_is_err_and}
 use Rattle.dl_stream.specs.Parts.{IsFirstLine}
 use Rattle.dl_stream.proofs.UniqueLemmas.{value_no_told, first_told, all_read, all_told}
-use Rattle.dl_stream.proofs.TextLemmas.{Read-first, Read-next, Line-fault, Line-part, Ends-value, Ends-fault}
+use Rattle.dl_stream.proofs.TextLemmas.{Read-first, Read-next, Line-fault, Line-part, Line-grows, Ends-value, Ends-fault}
 use Rattle.dl_stream.proofs.FitLemmas.{told_below, told_fit, told_few, told_fewer}
 use Rattle.dl_stream.proofs.reading.read_streams.Goals as goal
 
@@ -66,7 +66,7 @@ lines-smaller c =
 pub lines-preserved : goal.lines-preserved
 lines-preserved c =
     let first = subst (IsFirstLine c.lines.rest.now c.first_line.result.0.now) c.in-Some.is c.first_line.ensures in
-    Read-next c.args.bytes.now c.lines.rest.now c.args.names.now c.lines.names c.lines.n c.lines.place c.lines.invariant c.first_line.result.0.now c.in-Some.next.now c.read_line.new.names c.in_ok-place.place first c.in_ok-place.ensures.ok.gives c.in_ok-place.ensures.ok.counted
+    Read-next c.args.bytes.now c.lines.rest.now c.args.names.now c.lines.names c.lines.n c.lines.place c.lines.invariant c.first_line.result.0.now c.in-Some.next.now c.read_line.new.names c.in_ok-place.place first c.in_ok-place.ensures.ok.gives c.in_ok-place.ensures.ok.counted c.in_ok-place.ensures.grows
 
 pub returns-in_default-clause-places : goal.returns-in_default-clause-places
 returns-in_default-clause-places c = told_below c.args.bytes.now c.args.names.now c.read_line.new.names c.streams_at.result (returns-in_default-clause-value c)
@@ -79,3 +79,9 @@ returns-in_default-clause-few c = told_few c.args.bytes.now c.args.names.now c.r
 
 pub returns-in_default-clause-fewer : goal.returns-in_default-clause-fewer
 returns-in_default-clause-fewer c = told_fewer c.args.bytes.now c.args.names.now c.read_line.new.names c.streams_at.result (returns-in_default-clause-value c)
+
+pub returns-in_err-place-clause-grows : goal.returns-in_err-place-clause-grows
+returns-in_err-place-clause-grows c = Line-grows c.args.bytes.now c.lines.rest.now c.args.names.now c.lines.names c.lines.n c.lines.place c.lines.invariant c.first_line.result.0.now c.read_line.new.names c.in_err-place.ensures.grows
+
+pub returns-in_default-clause-grows : goal.returns-in_default-clause-grows
+returns-in_default-clause-grows c = Line-grows c.args.bytes.now c.lines.rest.now c.args.names.now c.lines.names c.lines.n c.lines.place c.lines.invariant c.first_line.result.0.now c.read_line.new.names c.in_ok-place.ensures.grows
