@@ -19,3 +19,4 @@ pub mod QueryBack
 pub mod QueryTokens
 pub mod QueryReadBack
 pub mod FactReadBack
+pub mod RenamedLemmas

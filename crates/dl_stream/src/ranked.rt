@@ -2,7 +2,7 @@
 ghost use Rattle.std.specs.Prelude.{◌≡◌, ◌<◌, length, map, slice_index, All};
 ghost use Rattle.dl_terms.specs.Occurring.{fact_names};
 ghost use Rattle.dl_terms.specs.Renamed.{renamed_fact};
-ghost use Rattle.dl_stream.specs.Commands.{ItemBelow, EventBelow, CommandBelow, renamed_item, renamed_edit, renamed_event, renamed_command};
+ghost use Rattle.dl_stream.specs.Commands.{ItemBelow, EventBelow, CommandBelow, IsFit, renamed_item, renamed_edit, renamed_event, renamed_command};
 
 use crate::axiom_ranks::rank_axiom;
 use crate::streams::{Command, Streams};
@@ -15,7 +15,8 @@ impl Streams {
     /// `NameSet::add` gave. It takes no memory.
     pub fn ranked(&mut self, ranks: &Ranks)
         requires { All (All (CommandBelow (length ranks.now))) self.old.lists }
-        ensures { self.new.lists ≡ map (map (renamed_command (slice_index ranks.now))) self.old.lists }
+        ensures renamed { self.new.lists ≡ map (map (renamed_command (slice_index ranks.now))) self.old.lists }
+        ensures fit { All (All IsFit) self.old.lists → All (All IsFit) self.new.lists }
     {
         rank_streams(ranks, self.lists.as_mut_slice());
     }
