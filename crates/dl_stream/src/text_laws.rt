@@ -10,12 +10,13 @@ ghost use Rattle.dl_query.specs.Queries as queries;
 ghost use Rattle.dl_stream.specs.ReadBack.{IsNamedFact};
 ghost use Rattle.dl_stream.specs.StreamText.{fact_text, query_text};
 
-/// A law: the text of a query that was read is read as this query, and names none that isn't there. `number` tells where
-/// each of its names stands in the list of names that it is printed by, which may be another one than it was read with.
-/// A query in memory has fewer than 256 variables.
+/// A law: the text of a query that was read is read as this query, and names none that isn't there. `number` tells
+/// where each of its names stands in the list of names that it is printed by, which may be another one than it was read
+/// with. A query in memory has fewer than 256 variables.
 pub fn queries_are_read_back()
     ensures { (bytes : List ℕ) (before names held : List Text) (query : Query) (number : ℕ → ℕ)
-        → queries.IsValue bytes before query names → query.vars ≤ 256 → HasNoRepeats held → length held ≤ max_names
+        → queries.IsValue bytes before query names → query.vars ≤ 256
+        → HasNoRepeats held → length held ≤ max_names
         → All (λ n. slice_get held (number n) ≡ slice_get names n) (query_names query)
         → queries.IsValue (query_text held (renamed_query number query)) held (renamed_query number query) held }
 {}
