@@ -1,4 +1,6 @@
 // Axioms as rows of constants.
+ghost use Rattle.std.specs.Prelude.{◌≡◌, IfOk};
+
 use dl_terms::{Axiom, Basic, List, NoMemory, Part, Role};
 use std::alloc::{AllocError, Global};
 
@@ -19,7 +21,9 @@ pub(crate) enum Row {
 }
 
 /// The list of some items.
-pub(crate) fn list_of<T: Copy + Drop>(alloc: Global, items: &[T]) -> Result<List<T>, AllocError> {
+pub(crate) fn list_of<T: Copy + Drop>(alloc: Global, items: &[T]) -> Result<List<T>, AllocError>
+    ensures { IfOk result (λ list. list ≡ items.now) }
+{
     Ok(List::of(Vec::from_slice(alloc, items)?))
 }
 

@@ -39,6 +39,8 @@ mod numbers;
 #[cfg(test)]
 mod ontology;
 #[cfg(test)]
+mod outcomes;
+#[cfg(test)]
 mod owl;
 #[cfg(test)]
 mod owl_faults;
@@ -62,6 +64,8 @@ mod spelling;
 mod store;
 #[cfg(test)]
 mod store_limits;
+#[cfg(test)]
+mod streams;
 mod tables;
 #[cfg(test)]
 mod terms;
