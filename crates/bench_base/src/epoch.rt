@@ -1,7 +1,7 @@
 // Epochs, built.
 ghost use Rattle.std.specs.Prelude.{◌≡◌, ◌∷◌, [], ◌<◌, length, All, Contains, IfOk};
 ghost use Rattle.std.specs.List.Sorted.{IsStrictlySortedBy};
-ghost use Rattle.dl_terms.specs.Fillers.{HasNoFiller};
+ghost use Rattle.dl_terms.specs.Auxiliaries.{HasNoAuxiliary};
 ghost use Rattle.dl_terms.specs.Order.{axiom_cmp};
 ghost use Rattle.dl_terms.specs.Roles.{named};
 ghost use Rattle.dl_terms.specs.Sets.{IsSetOf};
@@ -107,7 +107,7 @@ fn property(name: u32) -> Role
 fn inclusion(alloc: Global, signature: &Signature, tangle: bool, i: u32) -> Result<Axiom, NoMemory>
     requires classes { 0 < length signature.now.classes }
     requires roles { 0 < length signature.now.roles }
-    ensures no_filler { IfOk result HasNoFiller }
+    ensures no_auxiliary { IfOk result HasNoAuxiliary }
     ensures known { IfOk result (IsAxiomIn signature.now) }
 {
     let (classes, roles) = (signature.classes.as_slice(), signature.roles.as_slice());
@@ -141,7 +141,7 @@ fn inclusions(
     requires classes { 0 < length signature.now.classes }
     requires roles { 0 < length signature.now.roles }
     ensures ascending { IfOk result (IsStrictlySortedBy axiom_cmp) }
-    ensures no_filler { IfOk result (All HasNoFiller) }
+    ensures no_auxiliary { IfOk result (All HasNoAuxiliary) }
     ensures known { IfOk result (All (IsAxiomIn signature.now)) }
 {
     let mut axioms = List::new(alloc);
@@ -160,7 +160,7 @@ fn build(
     rounds: u32,
 ) -> Result<bool, NoMemory>
     requires ascending { IsStrictlySortedBy axiom_cmp axioms.now }
-    requires no_filler { All HasNoFiller axioms.now }
+    requires no_auxiliary { All HasNoAuxiliary axioms.now }
     requires known { All (IsAxiomIn signature.now) axioms.now }
 {
     if !fits(alloc, axioms, signature)? {

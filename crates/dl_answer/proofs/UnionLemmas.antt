@@ -37,7 +37,7 @@ use Rattle.dl_answer.proofs.DecidedLemmas.{some_exist}
 links_of : (facts : List Fact) (p : Predicates) → All (HasPredicate p.classes p.properties) facts
     → LinksAreKnown facts (roles p)
 links_of facts p known q a b c =
-    base-role p (named q) (Contains-append_left (map Named p.properties) p.fillers (Named q)
+    base-role p (named q) (Contains-append_left (map Named p.properties) p.auxiliaries (Named q)
     (Contains-map_of Named p.properties q
     (All-contains (HasPredicate p.classes p.properties) facts (Link q a b) known c)))
 

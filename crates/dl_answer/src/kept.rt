@@ -253,7 +253,7 @@ fn number_of_role(role: Role) -> usize {
     let start = if role.inverse { QUARTER * 2 } else { QUARTER };
     match role.base {
         Base::Named(name) => number_after(start, name),
-        Base::Filler { class, .. } => number_after(start, class),
+        Base::Auxiliary { class, .. } => number_after(start, class),
     }
 }
 

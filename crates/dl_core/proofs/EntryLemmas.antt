@@ -5,7 +5,7 @@ use Rattle.std.specs.List.Sorted.{IsStrictlySortedBy}
 use Rattle.std.proofs.lemmas.Bool.{cases_eq}
 use Rattle.std.proofs.lemmas.List.{length-map, length_push, take-map, take-append-le, take_all, get_or_append_left}
 use Rattle.std.proofs.lemmas.List.Elements.{All-take}
-use Rattle.dl_terms.specs.Fillers.{HasNoFiller}
+use Rattle.dl_terms.specs.Auxiliaries.{HasNoAuxiliary}
 use Rattle.dl_terms.specs.Order.{axiom_cmp}
 use Rattle.dl_terms.specs.declared.axiom.Axiom.{Axiom}
 use Rattle.dl_terms.specs.declared.axiom.Signature.{Signature}
@@ -43,9 +43,9 @@ buildable root o a k current frozen =
       ascending = subst (IsStrictlySortedBy axiom_cmp) axioms
           (edited_axioms-sorted a.edits root.current.axioms
           (subst (λ e. IsStrictlySortedBy axiom_cmp e.axioms) current frozen.ascending));
-      plain = subst (All HasNoFiller) axioms
+      plain = subst (All HasNoAuxiliary) axioms
           (edited_axioms-plain a.edits root.current.axioms a.plain
-          (subst (λ e. All HasNoFiller e.axioms) current frozen.no_filler));
+          (subst (λ e. All HasNoAuxiliary e.axioms) current frozen.no_auxiliary));
       known = subst (λ s. All (IsAxiomIn s) o.axioms) signature
           (subst (All (IsAxiomIn (edited_signature a.edits root.current.signature))) axioms
           (edited_axioms-known a.edits root.current.signature root.current.axioms

@@ -14,12 +14,12 @@ use Rattle.dl_epoch.proofs.FewLemmas.{one_count}
 use Rattle.dl_row.specs.Lists.{count}
 use Rattle.dl_row.proofs.CountLemmas.{same_itself}
 use Rattle.dl_core.specs.Sets.{has, with_items, IsOnce}
-use Rattle.dl_core.specs.Names.{filler_cmp, fillers, predicates}
+use Rattle.dl_core.specs.Names.{auxiliary_cmp, auxiliaries, predicates}
 use Rattle.dl_core.proofs.SetLemmas.{has-with_items, once-with_items, once-nil, has_there, there_has}
 use Rattle.dl_core.proofs.FactLemmas.{there_counts}
 
-fillers_linear : IsLinear filler_cmp
-fillers_linear = pairs_linear roles_linear numbers_linear
+auxiliaries_linear : IsLinear auxiliary_cmp
+auxiliaries_linear = pairs_linear roles_linear numbers_linear
 
 module _ {A : Type 0} {cmp : A → A → Ordering} (l : IsLinear cmp) where
   -- in a set no two items are the same, and a list of different items is one
@@ -62,14 +62,14 @@ module _ {A : Type 0} {cmp : A → A → Ordering} (l : IsLinear cmp) where
       to : (x : A) → has cmp items x ≡ true → has cmp (with_items cmp items []) x ≡ true
       to x h = same x ∙ h
 
--- the fillers that are counted are those of the definition
-pub fillers_are : (axioms : List Axiom) (n : ℕ) → HasDistinct (filled_pairs axioms) n → n ≡ fillers axioms
-fillers_are axioms n are = one_count (filled_pairs axioms) n (fillers axioms) are (set_distinct fillers_linear (filled_pairs axioms))
+-- the auxiliary roles that are counted are those of the definition
+pub auxiliaries_are : (axioms : List Axiom) (n : ℕ) → HasDistinct (filled_pairs axioms) n → n ≡ auxiliaries axioms
+auxiliaries_are axioms n are = one_count (filled_pairs axioms) n (auxiliaries axioms) are (set_distinct auxiliaries_linear (filled_pairs axioms))
 
 -- and where they are few with the signature, they are as a hierarchy wants it
 pub predicates_few : (s : Signature) (axioms : List Axiom) → predicates axioms s ≤ max_predicates → ArePredicatesFew s axioms
 predicates_few s axioms few = record {
-  fillers = fillers axioms;
-  distinct = set_distinct fillers_linear (filled_pairs axioms);
+  auxiliaries = auxiliaries axioms;
+  distinct = set_distinct auxiliaries_linear (filled_pairs axioms);
   few = few;
 }

@@ -1,11 +1,11 @@
--- Axioms after edits: a signature has their names, and none has a filler.
+-- Axioms after edits: a signature has their names, and none has an auxiliary role.
 use Rattle.std.proofs.Common.{◌≡◌, ℕ, Bool, true, false, not, cond, ◌||◌, List, [], ◌∷◌, All, Contains, refl, sym, ap, subst, ◌∙◌}
 use Rattle.std.specs.Ordering.{is_eq, nat_cmp}
 use Rattle.std.proofs.lemmas.List.Elements.{All-weaker, All-filter, All-head, All-tail, All-contains_itself}
-use Rattle.dl_terms.specs.Fillers.{HasNoFiller}
+use Rattle.dl_terms.specs.Auxiliaries.{HasNoAuxiliary}
 use Rattle.dl_terms.specs.Order.{axiom_cmp}
 use Rattle.dl_terms.specs.declared.role.Base.{Base}
-use Rattle.dl_terms.specs.declared.role.Base.TheVariants.{Named, Filler}
+use Rattle.dl_terms.specs.declared.role.Base.TheVariants.{Named, Auxiliary}
 use Rattle.dl_terms.specs.declared.role.Role.{Role}
 use Rattle.dl_terms.specs.declared.role.Basic.{Basic}
 use Rattle.dl_terms.specs.declared.role.Basic.TheVariants as basic
@@ -22,7 +22,7 @@ use Rattle.dl_core.specs.Sets.{has, with_items}
 use Rattle.dl_core.specs.Names.{item_classes, item_properties}
 use Rattle.dl_core.specs.Edits.{axioms_with, edited_axioms, signature_with, edited_signature}
 use Rattle.dl_core.specs.Root.{IsPart}
-use Rattle.dl_core.specs.Next.{ItemHasNoFiller}
+use Rattle.dl_core.specs.Next.{ItemHasNoAuxiliary}
 use Rattle.dl_core.specs.declared.event.Edit.{Edit}
 use Rattle.dl_core.specs.declared.event.Item.{Item}
 use Rattle.dl_core.specs.declared.event.Item.TheVariants as item
@@ -39,7 +39,7 @@ module _ (s t : Signature) (grows : IsPart s t) where
 
   base_more : (b : Base) → IsNamedIn s.roles b → IsNamedIn t.roles b
   base_more (Named p) h = there_has numbers_linear t.roles p (grows.roles p (has_there numbers_linear s.roles p h))
-  base_more (Filler p i c) h = tt
+  base_more (Auxiliary p i c) h = tt
 
   concept_more : (b : Basic) → IsConceptIn s b → IsConceptIn t b
   concept_more (basic.Class c) h = class_more c h
@@ -118,10 +118,10 @@ edited_axioms-known (e ∷ edits) s axioms all =
     (λ a add is. subst (λ i. IsAxiomIn (signature_with e.add i s) a) (sym is) (subst (λ b. IsAxiomIn (signature_with b (item.Axiom a) s) a) (sym add) (added_in s a)))
     (All-weaker (IsAxiomIn s) (IsAxiomIn t) (axiom_more s t (signature_grows e.add e.item s)) axioms all))
 
--- no axiom after edits has a filler, where none had and no added one has
-pub edited_axioms-plain : (edits : List Edit) (axioms : List Axiom) → All (λ e. ItemHasNoFiller e.item) edits → All HasNoFiller axioms
-    → All HasNoFiller (edited_axioms edits axioms)
+-- no axiom after edits has an auxiliary role, where none had and no added one has
+pub edited_axioms-plain : (edits : List Edit) (axioms : List Axiom) → All (λ e. ItemHasNoAuxiliary e.item) edits → All HasNoAuxiliary axioms
+    → All HasNoAuxiliary (edited_axioms edits axioms)
 edited_axioms-plain [] axioms plain all = all
 edited_axioms-plain (e ∷ edits) axioms plain all =
-    edited_axioms-plain edits (axioms_with e.add e.item axioms) (All-tail (λ e. ItemHasNoFiller e.item) e edits plain)
-    (axioms_with-all HasNoFiller e.add e.item axioms (λ a add is. subst ItemHasNoFiller is (All-head (λ e. ItemHasNoFiller e.item) e edits plain)) all)
+    edited_axioms-plain edits (axioms_with e.add e.item axioms) (All-tail (λ e. ItemHasNoAuxiliary e.item) e edits plain)
+    (axioms_with-all HasNoAuxiliary e.add e.item axioms (λ a add is. subst ItemHasNoAuxiliary is (All-head (λ e. ItemHasNoAuxiliary e.item) e edits plain)) all)

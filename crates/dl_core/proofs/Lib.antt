@@ -26,7 +26,7 @@ pub mod PinnedLemmas
 pub mod ReaderLemmas
 pub mod NewRowLemmas
 pub mod PartLemmas
-pub mod FillerLemmas
+pub mod AuxiliaryLemmas
 pub mod SetOfLemmas
 pub mod LoadLemmas
 pub mod SaidLemmas

@@ -43,7 +43,7 @@ use Rattle.dl_core.proofs.ShardLemmas.{filter-ordered}
 use Rattle.dl_core.proofs.RunLemmas.{loaded_stands}
 use Rattle.dl_core.proofs.RuleLemmas.{rule_is_numbering, ruled_epoch, rule_exists}
 use Rattle.dl_core.proofs.SetOfLemmas.{set_between, set_exists}
-use Rattle.dl_core.proofs.FillerLemmas.{count_all}
+use Rattle.dl_core.proofs.AuxiliaryLemmas.{count_all}
 use Rattle.dl_core.proofs.AscendLemmas.{sorted-once, signature-once}
 use Rattle.dl_core.proofs.SetLemmas.{has_there, there_has}
 

@@ -4,7 +4,7 @@ use Rattle.std.specs.List.{All}
 use Rattle.std.specs.declared.option.Option.{Option}
 use Rattle.std.specs.declared.option.Option.TheVariants.{Some, None}
 use Rattle.std.specs.List.Sorted.{IsStrictlySortedBy}
-use Rattle.dl_terms.specs.Fillers.{HasNoFiller}
+use Rattle.dl_terms.specs.Auxiliaries.{HasNoAuxiliary}
 use Rattle.dl_terms.specs.Order.{axiom_cmp}
 use Rattle.dl_terms.specs.declared.axiom.Fact.{Fact}
 use Rattle.dl_normal.specs.Weight.{total_weight}
@@ -17,7 +17,7 @@ use Rattle.dl_epoch.specs.Covering.{Kept, epoch_in}
 use Rattle.dl_row.specs.Shards.{max_rows}
 use Rattle.dl_core.specs.Root.{Root, epochs, shard, max_epochs}
 use Rattle.dl_core.specs.Edits.{edited_axioms, edited_signature, edited_facts}
-use Rattle.dl_core.specs.Next.{ItemHasNoFiller, opens, root_facts, new_facts, ended, commit_refused}
+use Rattle.dl_core.specs.Next.{ItemHasNoAuxiliary, opens, root_facts, new_facts, ended, commit_refused}
 use Rattle.dl_core.specs.Held.{CountsRows}
 use Rattle.dl_core.specs.Changes.{AreGone}
 use Rattle.dl_core.specs.declared.event.Edit.{Edit}
@@ -39,7 +39,7 @@ added root edits = new_facts (root_facts root) (edited_facts edits (root_facts r
 pub record IsAccepted (root : Root) (e : Ontology) : Type 0 where
   pub edits : List Edit
   pub edited : IsEdited root edits e
-  pub plain : All (λ x. ItemHasNoFiller x.item) edits
+  pub plain : All (λ x. ItemHasNoAuxiliary x.item) edits
   pub accepted : commit_refused root edits ≡ None
 
 -- and bring and take away these facts
@@ -72,7 +72,7 @@ unfit root opened new =
 -- what an epoch needs to be built
 pub record IsBuildable (e : Ontology) : Type 0 where
   pub ascending : IsStrictlySortedBy axiom_cmp e.axioms
-  pub plain : All HasNoFiller e.axioms
+  pub plain : All HasNoAuxiliary e.axioms
   pub known : All (IsAxiomIn e.signature) e.axioms
   pub signature : IsSignature e.signature
   pub weight : total_weight e.axioms ≤ max_weight

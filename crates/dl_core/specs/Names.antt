@@ -1,4 +1,4 @@
--- The predicates that items name and edits add, and how many there are with the fillers. That measure is this
+-- The predicates that items name and edits add, and how many there are with the auxiliary roles. That measure is this
 -- project's own.
 use Rattle.std.specs.Prelude.{ℕ, ◌+◌, cond, List, [], ◌∷◌, length}
 use Rattle.std.specs.Ordering.{nat_cmp, ordering_then}
@@ -34,14 +34,14 @@ added_classes e = cond e.add (item_classes e.item) []
 abbrev pub added_properties : Edit → List ℕ
 added_properties e = cond e.add (item_properties e.item) []
 
--- an order of fillers, which tells them apart
-abbrev pub filler_cmp : Role × ℕ → Role × ℕ → Ordering
-filler_cmp x y = ordering_then (role_cmp x.0 y.0) (nat_cmp x.1 y.1)
+-- an order of auxiliary roles, which tells them apart
+abbrev pub auxiliary_cmp : Role × ℕ → Role × ℕ → Ordering
+auxiliary_cmp x y = ordering_then (role_cmp x.0 y.0) (nat_cmp x.1 y.1)
 
--- how many fillers axioms have: the different pairs of a role and a class in their parts
-abbrev pub fillers : List Axiom → ℕ
-fillers axioms = length (with_items filler_cmp (filled_pairs axioms) [])
+-- how many auxiliary roles axioms have: the different pairs of a role and a class in their parts
+abbrev pub auxiliaries : List Axiom → ℕ
+auxiliaries axioms = length (with_items auxiliary_cmp (filled_pairs axioms) [])
 
--- the names of a signature and the fillers of axioms, together
+-- the names of a signature and the auxiliary roles of axioms, together
 abbrev pub predicates : List Axiom → Signature → ℕ
-predicates axioms signature = length signature.classes + length signature.roles + fillers axioms
+predicates axioms signature = length signature.classes + length signature.roles + auxiliaries axioms

@@ -12,7 +12,7 @@ use Rattle.dl_terms.specs.declared.axiom.Fact.{Fact}
 use Rattle.dl_terms.specs.declared.axiom.Fact.TheVariants.{Is, Link}
 use Rattle.dl_terms.specs.declared.axiom.Signature.{Signature}
 use Rattle.dl_terms.specs.Below.{RoleBelow, ConceptBelow}
-use Rattle.dl_terms.specs.Fillers.{HasNoFiller}
+use Rattle.dl_terms.specs.Auxiliaries.{HasNoAuxiliary}
 use Rattle.dl_terms.specs.Roles.{named}
 use Rattle.dl_terms.specs.declared.role.Basic.TheVariants as basic
 use Rattle.dl_numbers.specs.Rule.{IsByRule}
@@ -354,17 +354,17 @@ next numbering root stream (event.Look n) = (root, looked root n)
 abbrev pub IsReady : Root → Type 0
 IsReady root = root.version ≤ max_version
 
--- no role of an item, and of an event, is a filler
-abbrev pub ItemHasNoFiller : Item → Type 0
-ItemHasNoFiller (item.Axiom a) = HasNoFiller a
-ItemHasNoFiller (item.Fact f) = Unit {0}
-ItemHasNoFiller (item.Class c) = Unit {0}
-ItemHasNoFiller (item.Property p) = Unit {0}
+-- no role of an item, and of an event, is an auxiliary role
+abbrev pub ItemHasNoAuxiliary : Item → Type 0
+ItemHasNoAuxiliary (item.Axiom a) = HasNoAuxiliary a
+ItemHasNoAuxiliary (item.Fact f) = Unit {0}
+ItemHasNoAuxiliary (item.Class c) = Unit {0}
+ItemHasNoAuxiliary (item.Property p) = Unit {0}
 
-abbrev pub EventHasNoFiller : Event → Type 0
-EventHasNoFiller (event.Commit edits) = All (λ e. ItemHasNoFiller e.item) edits
-EventHasNoFiller e = Unit {0}
+abbrev pub EventHasNoAuxiliary : Event → Type 0
+EventHasNoAuxiliary (event.Commit edits) = All (λ e. ItemHasNoAuxiliary e.item) edits
+EventHasNoAuxiliary e = Unit {0}
 
--- the version has room for one more, and no axiom has a filler
+-- the version has room for one more, and no axiom has an auxiliary role
 abbrev pub MeetsCondition : Root → Event → Type 0
-MeetsCondition root e = IsReady root × EventHasNoFiller e
+MeetsCondition root e = IsReady root × EventHasNoAuxiliary e

@@ -1,6 +1,6 @@
 // A commit: accepted or refused.
 ghost use Rattle.std.specs.Prelude.{◌≡◌, ℕ, All, IfOk};
-ghost use Rattle.dl_core.specs.Next.{Numbering, GoesByRule, IsReady, ItemHasNoFiller, next};
+ghost use Rattle.dl_core.specs.Next.{Numbering, GoesByRule, IsReady, ItemHasNoAuxiliary, next};
 ghost use Rattle.dl_core.specs.declared.event.Event.TheVariants as event;
 
 use crate::changes::turned_facts;
@@ -13,10 +13,10 @@ use dl_terms::NoMemory;
 use std::alloc::Global;
 
 /// The root after a commit, and the reply. Where the commit is refused, the root is the same. No axiom among the edits
-/// has a filler. It fails only for want of memory.
+/// has an auxiliary role. It fails only for want of memory.
 pub(crate) fn commit(alloc: Global, root: &Root, edits: &[Edit]) -> Result<(Root, Reply), NoMemory>
     requires ready { IsReady root.now }
-    requires plain { All (λ e. ItemHasNoFiller e.item) edits.now }
+    requires plain { All (λ e. ItemHasNoAuxiliary e.item) edits.now }
     ensures { (numbering : Numbering) (stream : ℕ) → GoesByRule numbering
         → IfOk result (λ after. after ≡ next numbering root.now stream (event.Commit edits.now)) }
 {

@@ -5,11 +5,11 @@ ghost use Rattle.dl_normal.specs.Weight.{total_weight};
 ghost use Rattle.dl_epoch.specs.Known.{IsSignature, max_weight};
 ghost use Rattle.dl_core.specs.Names.{predicates};
 
-use dl_normal::fillers;
+use dl_normal::auxiliaries;
 use dl_terms::{Axiom, NoMemory, Signature};
 use std::alloc::Global;
 
-/// How many predicates there are: the names of a signature, and the fillers of axioms that aren't too heavy.
+/// How many predicates there are: the names of a signature, and the auxiliary roles of axioms that aren't too heavy.
 pub(crate) fn predicate_count(
     alloc: Global,
     axioms: &[Axiom],
@@ -20,7 +20,7 @@ pub(crate) fn predicate_count(
     ensures { IfOk result (λ count. count ≡ predicates axioms.now signature.now) }
 {
     let names = name_count(signature.classes.as_slice(), signature.roles.as_slice());
-    Ok(names + fillers(alloc, axioms)?)
+    Ok(names + auxiliaries(alloc, axioms)?)
 }
 
 /// How many names two lists have together that ascend strictly.

@@ -2,11 +2,11 @@
 ghost use Rattle.std.specs.Prelude.{◌≡◌, All, IfOk, OnOk, OnErr};
 ghost use Rattle.std.specs.List.{list_any};
 ghost use Rattle.std.specs.List.Sorted.{IsStrictlySortedBy};
-ghost use Rattle.dl_terms.specs.Fillers.{HasNoFiller};
+ghost use Rattle.dl_terms.specs.Auxiliaries.{HasNoAuxiliary};
 ghost use Rattle.dl_terms.specs.Order.{axiom_cmp};
 ghost use Rattle.dl_core.specs.Decided.{is_axiom};
 ghost use Rattle.dl_core.specs.Edits.{axioms_with, edited_axioms as axioms_after};
-ghost use Rattle.dl_core.specs.Next.{ItemHasNoFiller};
+ghost use Rattle.dl_core.specs.Next.{ItemHasNoAuxiliary};
 
 use crate::{Edit, Item};
 use dl_epoch::{copied_axiom, copied_axioms};
@@ -23,8 +23,8 @@ pub(crate) fn edited_axioms(
     requires { IsStrictlySortedBy axiom_cmp axioms.now }
     ensures edited { IfOk result (λ after. after ≡ axioms_after edits.now axioms.now) }
     ensures ascending { IfOk result (λ after. IsStrictlySortedBy axiom_cmp after) }
-    ensures no_filler { All HasNoFiller axioms.now → All (λ e. ItemHasNoFiller e.item) edits.now
-        → IfOk result (λ after. All HasNoFiller after) }
+    ensures no_auxiliary { All HasNoAuxiliary axioms.now → All (λ e. ItemHasNoAuxiliary e.item) edits.now
+        → IfOk result (λ after. All HasNoAuxiliary after) }
 {
     // Most commits edit facts alone.
     if !has_axiom(edits) {

@@ -6,7 +6,7 @@ use std::alloc::AllocError;
 pub enum LoadFault {
     /// The axioms weigh more than 65,536.
     TooManyAxioms { weight: u64 },
-    /// The signature and the fillers are more than 4,096.
+    /// The signature and the auxiliary roles are more than 4,096.
     TooManyPredicates { count: u64 },
     /// The facts are more than 4,194,304.
     Full { rows: u64 },

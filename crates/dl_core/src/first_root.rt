@@ -1,7 +1,7 @@
 // The load: the first root.
 ghost use Rattle.std.specs.Prelude.{◌≡◌, ℕ, ◌≤◌, All, IfOk, IfErr, MatchResult};
 ghost use Rattle.std.specs.List.Sorted.{IsStrictlySortedBy};
-ghost use Rattle.dl_terms.specs.Fillers.{HasNoFiller};
+ghost use Rattle.dl_terms.specs.Auxiliaries.{HasNoAuxiliary};
 ghost use Rattle.dl_terms.specs.Order.{axiom_cmp, fact_cmp};
 ghost use Rattle.dl_epoch.specs.Known.{IsSignature, IsAxiomIn};
 ghost use Rattle.dl_core.specs.History.{Load};
@@ -25,7 +25,7 @@ pub(crate) const MAX_WEIGHT: u64 = 65_536;
 pub(crate) const MAX_ROWS: u64 = 4_194_304;
 
 /// The root of axioms, a signature and facts, in 1 to 64 shards: version 1, epoch 1, and no pin. Axioms and facts stand
-/// in any order and count once; axioms have no filler, and the signature, whose lists ascend strictly, has every
+/// in any order and count once; axioms have no auxiliary role, and the signature, whose lists ascend strictly, has every
 /// predicate of axioms and facts.
 pub fn load(
     alloc: Global,
@@ -34,7 +34,7 @@ pub fn load(
     facts: &[Fact],
     shards: u32,
 ) -> Result<Root, LoadFault>
-    requires no_filler { All HasNoFiller axioms.now }
+    requires no_auxiliary { All HasNoAuxiliary axioms.now }
     requires axioms { All (IsAxiomIn signature.now) axioms.now }
     requires facts { All (IsFactIn signature.now) facts.now }
     requires signature { IsSignature signature.now }
@@ -60,7 +60,7 @@ fn load_axioms(
     shards: u32,
 ) -> Result<Root, LoadFault>
     requires ascending { IsStrictlySortedBy axiom_cmp axioms.now }
-    requires no_filler { All HasNoFiller axioms.now }
+    requires no_auxiliary { All HasNoAuxiliary axioms.now }
     requires axioms { All (IsAxiomIn signature.now) axioms.now }
     requires facts { All (IsFactIn signature.now) facts.now }
     requires signature { IsSignature signature.now }
@@ -86,7 +86,7 @@ fn load_sets(
 ) -> Result<Root, LoadFault>
     requires ascending { IsStrictlySortedBy axiom_cmp axioms.now }
     requires facts_ascending { IsStrictlySortedBy fact_cmp facts.now }
-    requires no_filler { All HasNoFiller axioms.now }
+    requires no_auxiliary { All HasNoAuxiliary axioms.now }
     requires axioms { All (IsAxiomIn signature.now) axioms.now }
     requires facts { All (IsFactIn signature.now) facts.now }
     requires signature { IsSignature signature.now }

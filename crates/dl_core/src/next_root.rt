@@ -16,7 +16,7 @@ use dl_terms::NoMemory;
 use std::alloc::Global;
 
 /// The root after what a stream asks for, and what it is told. The version is at most 2,147,483,648, and no axiom among
-/// the edits of a commit has a filler. Where the event is refused, the root is the same. It fails only for want of
+/// the edits of a commit has an auxiliary role. Where the event is refused, the root is the same. It fails only for want of
 /// memory; the root that was lent is as before in any case.
 pub fn step(
     alloc: Global,

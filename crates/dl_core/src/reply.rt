@@ -24,7 +24,7 @@ pub enum Reply {
 pub enum Refusal {
     /// The axioms after the commit weigh more than 65,536.
     TooManyAxioms { weight: u64 },
-    /// The signature and the fillers after the commit are more than 4,096.
+    /// The signature and the auxiliary roles after the commit are more than 4,096.
     TooManyPredicates { count: u64 },
     /// The commit would open an epoch, and 64 are kept.
     TooManyEpochs { kept: u32 },

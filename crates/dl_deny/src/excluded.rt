@@ -87,12 +87,12 @@ fn role_atom(role: Role, from: Term, to: Term) -> Atom
     }
 }
 
-/// The name of a role; of a filler, which no negative has, that of its role.
+/// The name of a role; of an auxiliary role, which no negative has, that of its role.
 fn role_name(base: Base) -> u32
     ensures { result ≡ role_name base }
 {
     match base {
         Base::Named(name) => name,
-        Base::Filler { role, .. } => role,
+        Base::Auxiliary { role, .. } => role,
     }
 }

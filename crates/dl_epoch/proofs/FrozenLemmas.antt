@@ -2,7 +2,7 @@
 use Rattle.std.proofs.Common.{◌≡◌, ℕ, List, sym, ap, subst, ◌∙◌}
 use Rattle.std.specs.List.{All}
 use Rattle.std.specs.List.Sorted.{IsStrictlySortedBy}
-use Rattle.dl_terms.specs.Fillers.{HasNoFiller}
+use Rattle.dl_terms.specs.Auxiliaries.{HasNoAuxiliary}
 use Rattle.dl_terms.specs.Order.{axiom_cmp}
 use Rattle.dl_terms.specs.declared.axiom.Axiom.{Axiom}
 use Rattle.dl_terms.specs.declared.axiom.Signature.{Signature}
@@ -28,11 +28,11 @@ predicates_of s axioms rows p is are normal other = subst (λ n. ArePredicatesOf
 
 module _ (id : ℕ) (axioms copied : List Axiom) (s signature : Signature) (classes roles : List ℕ)
     (same_axioms : copied ≡ axioms) (same_signature : signature ≡ s) where
-  pub built_frozen : IsStrictlySortedBy axiom_cmp axioms → All HasNoFiller axioms → All (IsAxiomIn s) axioms → IsSignature s
+  pub built_frozen : IsStrictlySortedBy axiom_cmp axioms → All HasNoAuxiliary axioms → All (IsAxiomIn s) axioms → IsSignature s
       → classes ≡ s.classes → roles ≡ s.roles → IsFrozen (frozen id copied signature classes roles)
   built_frozen up plain known names c r = record {
     ascending = subst (IsStrictlySortedBy axiom_cmp) (sym same_axioms) up;
-    no_filler = subst (All HasNoFiller) (sym same_axioms) plain;
+    no_auxiliary = subst (All HasNoAuxiliary) (sym same_axioms) plain;
     known = subst (λ z. All (IsAxiomIn z) copied) (sym same_signature) (subst (All (IsAxiomIn s)) (sym same_axioms) known);
     signature = subst IsSignature (sym same_signature) names;
     class_numbers = c ∙ ap (λ (z : Signature). z.classes) (sym same_signature);

@@ -2,10 +2,10 @@
 use Rattle.std.proofs.Common.{◌≡◌, ℕ, List, [], ◌∷◌, ◌++◌, map, zip, flat_map, filter_map, refl, sym, subst}
 use Rattle.std.specs.List.{All}
 use Rattle.std.proofs.lemmas.List.Elements.{All-nil, All-cons, All-head, All-tail, All-append, All-push, All-map}
-use Rattle.dl_terms.specs.Roles.{inverse_of, filler_base, filler_of}
+use Rattle.dl_terms.specs.Roles.{inverse_of, auxiliary_base, auxiliary_of}
 use Rattle.dl_terms.specs.NormalForm.{Row, role_in, concept_in, never, ring, pairs, part_rows, axiom_rows, rows_of, as_role_in, as_concept_in}
 use Rattle.dl_terms.specs.declared.role.Base.{Base}
-use Rattle.dl_terms.specs.declared.role.Base.TheVariants.{Named, Filler}
+use Rattle.dl_terms.specs.declared.role.Base.TheVariants.{Named, Auxiliary}
 use Rattle.dl_terms.specs.declared.role.Role.{Role}
 use Rattle.dl_terms.specs.declared.role.Basic.{Basic}
 use Rattle.dl_terms.specs.declared.role.Basic.TheVariants as basic
@@ -53,21 +53,21 @@ module _ (s : Signature) where
   one : (row : Row) → IsRowIn row → All IsRowIn (row ∷ [])
   one row h = All-cons IsRowIn row [] h (All-nil IsRowIn)
 
-  -- a filler needs no name
-  filler_in : (b : Base) (r : Role) (c : ℕ) → r.base ≡ b → IsNamedIn s.roles (filler_base b r.inverse c)
-  filler_in (Named p) r c e = tt
-  filler_in (Filler p i d) r c e = tt
+  -- an auxiliary role needs no name
+  auxiliary_in : (b : Base) (r : Role) (c : ℕ) → r.base ≡ b → IsNamedIn s.roles (auxiliary_base b r.inverse c)
+  auxiliary_in (Named p) r c e = tt
+  auxiliary_in (Auxiliary p i d) r c e = tt
 
   part_in : (b : Basic) → IsConceptIn s b → (p : Part) → IsPartIn s p → All IsRowIn (part_rows b p)
   part_in b h part.Thing k = All-nil IsRowIn
   part_in b h (part.Class c) k = one (concept_in b (basic.Class c)) (h, k)
   part_in b h (part.Any r) k = one (concept_in b (basic.SomeOf r)) (h, k)
   part_in b h (part.Fill r c) k =
-      let f = filler_in r.base r c refl in
-      All-cons IsRowIn (concept_in b (basic.SomeOf (filler_of r c)))
-      (role_in (filler_of r c) r ∷ concept_in (basic.SomeOf (inverse_of (filler_of r c))) (basic.Class c) ∷ []) (h, f)
-      (All-cons IsRowIn (role_in (filler_of r c) r) (concept_in (basic.SomeOf (inverse_of (filler_of r c))) (basic.Class c) ∷ []) (f, k.0)
-      (one (concept_in (basic.SomeOf (inverse_of (filler_of r c))) (basic.Class c)) (f, k.1)))
+      let f = auxiliary_in r.base r c refl in
+      All-cons IsRowIn (concept_in b (basic.SomeOf (auxiliary_of r c)))
+      (role_in (auxiliary_of r c) r ∷ concept_in (basic.SomeOf (inverse_of (auxiliary_of r c))) (basic.Class c) ∷ []) (h, f)
+      (All-cons IsRowIn (role_in (auxiliary_of r c) r) (concept_in (basic.SomeOf (inverse_of (auxiliary_of r c))) (basic.Class c) ∷ []) (f, k.0)
+      (one (concept_in (basic.SomeOf (inverse_of (auxiliary_of r c))) (basic.Class c)) (f, k.1)))
   part_in b h (part.Not d) k = one (never (Basics b d)) tt
 
   parts_in : (b : Basic) → IsConceptIn s b → (ps : List Part) → All (IsPartIn s) ps → All IsRowIn (flat_map (part_rows b) ps)

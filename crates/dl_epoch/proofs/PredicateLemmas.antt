@@ -2,7 +2,7 @@
 use Rattle.std.proofs.Common.{ℕ, List, [], ◌∷◌, ◌++◌, flat_map, All, Contains}
 use Rattle.std.proofs.lemmas.List.Elements.{All-nil, All-cons, All-head, All-tail}
 use Rattle.dl_terms.specs.declared.role.Base.{Base}
-use Rattle.dl_terms.specs.declared.role.Base.TheVariants.{Named, Filler}
+use Rattle.dl_terms.specs.declared.role.Base.TheVariants.{Named, Auxiliary}
 use Rattle.dl_terms.specs.declared.role.Role.{Role}
 use Rattle.dl_terms.specs.declared.role.Basic.{Basic}
 use Rattle.dl_terms.specs.declared.role.Basic.TheVariants as basic
@@ -44,7 +44,7 @@ module _ (s : Signature) where
 
   base_is_in : (b : Base) → Properties (base_properties b) → IsNamedIn s.roles b
   base_is_in (Named p) k = All-head (Contains s.roles) p [] k
-  base_is_in (Filler p i c) k = tt
+  base_is_in (Auxiliary p i c) k = tt
 
   role_is_in : (r : Role) → Properties (role_properties r) → IsRoleIn s r
   role_is_in r k = base_is_in r.base k

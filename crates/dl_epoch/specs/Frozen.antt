@@ -3,7 +3,7 @@ use Rattle.std.specs.Prelude.{◌≡◌, ℕ, List}
 use Rattle.std.specs.List.{All}
 use Rattle.std.specs.List.Sorted.{IsStrictlySortedBy}
 use Rattle.dl_terms.specs.Below.{RoleBelow, ConceptBelow}
-use Rattle.dl_terms.specs.Fillers.{HasNoFiller}
+use Rattle.dl_terms.specs.Auxiliaries.{HasNoAuxiliary}
 use Rattle.dl_terms.specs.Order.{axiom_cmp}
 use Rattle.dl_terms.specs.Roles.{named}
 use Rattle.dl_terms.specs.declared.role.Basic.TheVariants as basic
@@ -29,18 +29,18 @@ abbrev pub frozen : ℕ → List Axiom → Signature → List ℕ → List ℕ �
 frozen id axioms signature classes roles =
     record { id = id; axioms = axioms; signature = signature; classes = classes; roles = roles }
 
--- what an epoch needs to be built again: its axioms ascend strictly, have no filler, and name what is in its
+-- what an epoch needs to be built again: its axioms ascend strictly, have no auxiliary role, and name what is in its
 -- signature; and its numbers are the rule's
 pub record IsFrozen (e : Frozen) : Type 0 where
   pub ascending : IsStrictlySortedBy axiom_cmp e.axioms
-  pub no_filler : All HasNoFiller e.axioms
+  pub no_auxiliary : All HasNoAuxiliary e.axioms
   pub known : All (IsAxiomIn e.signature) e.axioms
   pub signature : IsSignature e.signature
   pub class_numbers :
       IsByRule e.signature.classes (λ c d. ConceptBelow e.axioms (basic.Class c) (basic.Class d)) e.classes
   pub role_numbers : IsByRule e.signature.roles (λ p q. RoleBelow e.axioms (named p) (named q)) e.roles
 
--- its hierarchy is that of its axioms, over the names of its signature and the fillers of the normal form
+-- its hierarchy is that of its axioms, over the names of its signature and the auxiliary roles of the normal form
 pub record IsHierarchyIn (e : Frozen) (h : Hierarchy) : Type 0 where
   pub below : IsHierarchyOf h e.axioms
   pub classes : h.predicates.classes ≡ e.signature.classes

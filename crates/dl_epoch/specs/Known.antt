@@ -50,8 +50,8 @@ IsAxiomIn s (Symmetric r) = IsRoleIn s r
 IsAxiomIn s (Asymmetric r) = IsRoleIn s r
 IsAxiomIn s (Irreflexive r) = IsRoleIn s r
 
--- the names of a signature and the fillers of axioms together are few
+-- the names of a signature and the auxiliary roles of axioms together are few
 pub record ArePredicatesFew (s : Signature) (axioms : List Axiom) : Type 0 where
-  pub fillers : ℕ
-  pub distinct : HasDistinct (filled_pairs axioms) fillers
-  pub few : length s.classes + length s.roles + fillers ≤ max_predicates
+  pub auxiliaries : ℕ
+  pub distinct : HasDistinct (filled_pairs axioms) auxiliaries
+  pub few : length s.classes + length s.roles + auxiliaries ≤ max_predicates

@@ -3,7 +3,7 @@
 use Rattle.std.specs.Prelude.{ℕ, List, [], ◌∷◌, ◌++◌}
 use Rattle.std.specs.List.{flat_map}
 use Rattle.dl_terms.specs.declared.role.Base.{Base}
-use Rattle.dl_terms.specs.declared.role.Base.TheVariants.{Named, Filler}
+use Rattle.dl_terms.specs.declared.role.Base.TheVariants.{Named, Auxiliary}
 use Rattle.dl_terms.specs.declared.role.Role.{Role}
 use Rattle.dl_terms.specs.declared.role.Basic.{Basic}
 use Rattle.dl_terms.specs.declared.role.Basic.TheVariants as basic
@@ -36,7 +36,7 @@ axiom_classes a = []
 
 abbrev pub base_properties : Base → List ℕ
 base_properties (Named p) = p ∷ []
-base_properties (Filler p i c) = p ∷ []
+base_properties (Auxiliary p i c) = p ∷ []
 
 abbrev pub role_properties : Role → List ℕ
 role_properties r = base_properties r.base

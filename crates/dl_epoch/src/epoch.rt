@@ -2,7 +2,7 @@
 ghost use Rattle.std.specs.Prelude.{◌≡◌, ◌≤◌, length, Contains, IfOk, MatchOption};
 ghost use Rattle.std.specs.List.{All};
 ghost use Rattle.std.specs.List.Sorted.{IsStrictlySortedBy};
-ghost use Rattle.dl_terms.specs.Fillers.{HasNoFiller};
+ghost use Rattle.dl_terms.specs.Auxiliaries.{HasNoAuxiliary};
 ghost use Rattle.dl_terms.specs.Order.{axiom_cmp};
 ghost use Rattle.dl_normal.specs.Weight.{total_weight};
 ghost use Rattle.dl_terms.specs.declared.role.Normal.{Normal};
@@ -49,9 +49,9 @@ impl Model for Epoch {
 }
 
 impl Epoch {
-    /// The epoch of axioms and a signature. The axioms ascend strictly in axiom order and have no filler; the signature
+    /// The epoch of axioms and a signature. The axioms ascend strictly in axiom order and have no auxiliary role; the signature
     /// has all their names, and each of its lists ascends strictly; the weight is at most 65,536, and the names of the
-    /// signature and the fillers are at most 4,096. It fails only for want of memory.
+    /// signature and the auxiliary roles are at most 4,096. It fails only for want of memory.
     pub fn build(
         alloc: Global,
         id: u32,
@@ -59,7 +59,7 @@ impl Epoch {
         signature: &Signature,
     ) -> Result<Epoch, NoMemory>
         requires ascending { IsStrictlySortedBy axiom_cmp axioms.now }
-        requires no_filler { All HasNoFiller axioms.now }
+        requires no_auxiliary { All HasNoAuxiliary axioms.now }
         requires known { All (IsAxiomIn signature.now) axioms.now }
         requires signature { IsSignature signature.now }
         requires weight { total_weight axioms.now ≤ max_weight }
@@ -106,7 +106,7 @@ impl Epoch {
         &self.signature
     }
 
-    /// The hierarchy of its axioms, over the names of its signature and the fillers of the axioms. It takes no memory.
+    /// The hierarchy of its axioms, over the names of its signature and the auxiliary roles of the axioms. It takes no memory.
     pub fn hier(&self) -> &Hier
         ensures { IsHierarchyIn self.now result.now }
     {
@@ -165,7 +165,7 @@ impl Epoch {
 
 /// The hierarchy of axioms over a signature.
 fn hier_of(alloc: Global, axioms: &[Axiom], signature: &Signature) -> Result<Hier, NoMemory>
-    requires no_filler { All HasNoFiller axioms.now }
+    requires no_auxiliary { All HasNoAuxiliary axioms.now }
     requires known { All (IsAxiomIn signature.now) axioms.now }
     requires signature { IsSignature signature.now }
     requires weight { total_weight axioms.now ≤ max_weight }

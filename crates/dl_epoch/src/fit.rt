@@ -5,7 +5,7 @@ ghost use Rattle.dl_normal.specs.Weight.{total_weight};
 ghost use Rattle.dl_epoch.specs.Known.{IsSignature, ArePredicatesFew, max_weight};
 
 use dl_hier::MAX_PREDICATES;
-use dl_normal::{fillers, weight};
+use dl_normal::{auxiliaries, weight};
 use dl_terms::{Axiom, NoMemory, Signature};
 use std::alloc::Global;
 
@@ -13,7 +13,7 @@ use std::alloc::Global;
 pub const MAX_WEIGHT: u64 = 65_536;
 
 /// Whether the size of these and the order of the names are as `Epoch::build` asks: each list of the signature ascends
-/// strictly, the axioms weigh at most `MAX_WEIGHT`, and the names of the signature and the fillers of the axioms are at
+/// strictly, the axioms weigh at most `MAX_WEIGHT`, and the names of the signature and the auxiliary roles of the axioms are at
 /// most `MAX_PREDICATES` of `dl_hier`. Fails only for want of memory.
 pub fn fits(alloc: Global, axioms: &[Axiom], signature: &Signature) -> Result<bool, NoMemory>
     ensures { IfOk result (λ fit. IsTrue fit ↔ (IsSignature signature.now
@@ -40,12 +40,12 @@ fn ascend(names: &[u32]) -> bool
     true
 }
 
-/// Whether the names of a signature and the fillers of axioms are few.
+/// Whether the names of a signature and the auxiliary roles of axioms are few.
 fn are_few(alloc: Global, axioms: &[Axiom], signature: &Signature) -> Result<bool, NoMemory>
     ensures { IfOk result (λ few. IsTrue few ↔ ArePredicatesFew signature.now axioms.now) }
 {
-    let fillers = fillers(alloc, axioms)?;
+    let auxiliaries = auxiliaries(alloc, axioms)?;
     let classes = signature.classes.len() as u64;
     let roles = signature.roles.len() as u64;
-    Ok(classes.saturating_add(roles).saturating_add(fillers) <= MAX_PREDICATES as u64)
+    Ok(classes.saturating_add(roles).saturating_add(auxiliaries) <= MAX_PREDICATES as u64)
 }

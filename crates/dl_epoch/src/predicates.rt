@@ -139,6 +139,6 @@ fn push_role(signature: &mut Signature, role: Role) -> Result<(), NoMemory>
 {
     match role.base {
         Base::Named(property) => signature.roles.push(property),
-        Base::Filler { role, .. } => signature.roles.push(role),
+        Base::Auxiliary { role, .. } => signature.roles.push(role),
     }
 }

@@ -4,7 +4,7 @@ use Rattle.std.specs.List.{Contains, list_all, flat_map, filter_map}
 use Rattle.std.specs.declared.option.Option.{Option}
 use Rattle.std.specs.List.Sorted.{IsStrictlySortedBy}
 use Rattle.std.proofs.lemmas.List.Elements.{All-from_recursion, All-nil}
-use Rattle.dl_terms.specs.Roles.{inverse_of, named, filler_of}
+use Rattle.dl_terms.specs.Roles.{inverse_of, named, auxiliary_of}
 use Rattle.dl_terms.specs.Chain.{empty}
 use Rattle.dl_terms.specs.Below.{RoleStep, ConceptBelow}
 use Rattle.dl_terms.specs.NormalForm.{negatives, axiom_negatives, axiom_rows, as_negative}
@@ -12,7 +12,7 @@ use Rattle.dl_terms.specs.Structure.{HoldsAtName, by_class, individual, child, H
 use Rattle.dl_terms.specs.Broken.{IsMet, IsFirstBroken, NothingIsBroken}
 use Rattle.dl_terms.specs.Order.{axiom_cmp}
 use Rattle.dl_terms.specs.Sets.{IsSetOf}
-use Rattle.dl_examples.specs.Examples.{class_a, class_c, class_d, property_p, name_a, a_is_an_a, a_filler_in_c_and_d, c_and_d_are_disjoint, p_is_asymmetric, p_is_irreflexive, an_a_is_a_d, a_is_disjoint_from_itself}
+use Rattle.dl_examples.specs.Examples.{class_a, class_c, class_d, property_p, name_a, a_is_an_a, a_auxiliary_in_c_and_d, c_and_d_are_disjoint, p_is_asymmetric, p_is_irreflexive, an_a_is_a_d, a_is_disjoint_from_itself}
 use Rattle.dl_terms.specs.declared.role.Role.{Role}
 use Rattle.dl_terms.specs.declared.role.Basic.TheVariants as basic
 use Rattle.dl_terms.specs.declared.role.Negative.{Negative}
@@ -39,14 +39,14 @@ IsFirstBroken-head axioms facts nothing broken n after e met =
 -- ---- C and D meet at an unnamed element alone
 
 abbrev filling : List Axiom
-filling = a_filler_in_c_and_d
+filling = a_auxiliary_in_c_and_d
 
 abbrev p : Role
 p = named property_p
 
--- the filler of P and C
+-- the auxiliary role of P and C
 abbrev u : Role
-u = filler_of p class_c
+u = auxiliary_of p class_c
 
 abbrev a_is : List Fact
 a_is = a_is_an_a ∷ []

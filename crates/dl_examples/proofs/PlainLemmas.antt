@@ -7,7 +7,7 @@ use Rattle.dl_terms.specs.Below.{RoleStep, RoleBelow, ConceptStep, ConceptBelow}
 use Rattle.dl_terms.specs.NormalForm.{role_inclusions, concept_inclusions}
 use Rattle.dl_terms.specs.Structure.{Element, child, Joins, by_fact, by_fact_turned, to_child, from_child}
 use Rattle.dl_terms.specs.declared.role.Base.{Base}
-use Rattle.dl_terms.specs.declared.role.Base.TheVariants.{Named, Filler}
+use Rattle.dl_terms.specs.declared.role.Base.TheVariants.{Named, Auxiliary}
 use Rattle.dl_terms.specs.declared.role.Role.{Role}
 use Rattle.dl_terms.specs.declared.role.Basic.{Basic}
 use Rattle.dl_terms.specs.declared.role.Basic.TheVariants.{SomeOf}
@@ -22,7 +22,7 @@ turned-named p q e = true≢false (ap (λ r. r.inverse) e)
 
 number_of : Base → ℕ
 number_of (Named p) = p
-number_of (Filler p i c) = p
+number_of (Auxiliary p i c) = p
 
 -- a named role has one number
 pub named-injective : (p q : ℕ) → named p ≡ named q → p ≡ q

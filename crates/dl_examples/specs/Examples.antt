@@ -1,7 +1,7 @@
 -- The ontologies and queries of the worked examples, in functional syntax and as lists. Numbers stand for names.
 use Rattle.std.specs.Prelude.{ℕ, suc, List, [], ◌∷◌, map, replicate}
 use Rattle.std.specs.List.{range_with_len}
-use Rattle.dl_terms.specs.Roles.{named, inverse_of, filler_of}
+use Rattle.dl_terms.specs.Roles.{named, inverse_of, auxiliary_of}
 use Rattle.dl_terms.specs.declared.role.Role.{Role}
 use Rattle.dl_terms.specs.declared.role.Basic.TheVariants as basic
 use Rattle.dl_terms.specs.declared.axiom.Part.TheVariants as part
@@ -45,9 +45,9 @@ role_p = named property_p
 abbrev pub role_s : Role
 role_s = named property_s
 
--- the filler of P and C
+-- the auxiliary role of P and C
 abbrev pub p_in_c : Role
-p_in_c = filler_of role_p class_c
+p_in_c = auxiliary_of role_p class_c
 
 -- a role atom between two variables
 abbrev pub link : ℕ → ℕ → ℕ → Atom
@@ -146,8 +146,8 @@ abbrev pub a_is_disjoint_from_itself : Axiom
 a_is_disjoint_from_itself = DisjointClasses (basic.Class class_a ∷ basic.Class class_a ∷ [])
 
 -- A below some P in C, what has an incoming P is a D, C and D are disjoint
-abbrev pub a_filler_in_c_and_d : List Axiom
-a_filler_in_c_and_d = a_has_a_p_in_c ∷ a_p_is_a_d ∷ c_and_d_are_disjoint ∷ []
+abbrev pub a_auxiliary_in_c_and_d : List Axiom
+a_auxiliary_in_c_and_d = a_has_a_p_in_c ∷ a_p_is_a_d ∷ c_and_d_are_disjoint ∷ []
 
 -- q(x) :- P(x, y)
 abbrev pub has_a_p : Query

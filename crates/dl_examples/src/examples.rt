@@ -9,7 +9,7 @@ ghost use Rattle.dl_terms.specs.Order.{axiom_cmp};
 ghost use Rattle.dl_terms.specs.Queries.{IsWellFormed};
 ghost use Rattle.dl_terms.specs.Reply.{IsReply, found, too_many, inconsistent};
 ghost use Rattle.dl_terms.specs.Sets.{IsSetOf};
-ghost use Rattle.dl_examples.specs.Examples.{class_a, class_c, class_d, role_p, role_s, p_in_c, name_a, name_b, name_c, a_is_an_a, a_and_c_are_as, p_from_a_to_b, p_from_a_to_a, a_has_a_p, a_p_has_an_s, a_p_has_a_p, p_is_a_turned_s, a_filler_in_c_and_d, c_and_d_are_disjoint, p_is_asymmetric, p_is_irreflexive, an_a_is_a_d, a_is_disjoint_from_itself, b_is_an_a, s_from_a_to_b, s_from_a_to_c, s_from_b_to_a, no_p_beside_an_s, a_p_is_no_a, an_a_is_no_p, p_is_no_turned_s, has_a_p, is_p, share_a_p, has_a_p_with_an_s, some_loop, seven_in_a_row, is_s, unsafe_head, has_neighbours, some_p, with_a_p};
+ghost use Rattle.dl_examples.specs.Examples.{class_a, class_c, class_d, role_p, role_s, p_in_c, name_a, name_b, name_c, a_is_an_a, a_and_c_are_as, p_from_a_to_b, p_from_a_to_a, a_has_a_p, a_p_has_an_s, a_p_has_a_p, p_is_a_turned_s, a_auxiliary_in_c_and_d, c_and_d_are_disjoint, p_is_asymmetric, p_is_irreflexive, an_a_is_a_d, a_is_disjoint_from_itself, b_is_an_a, s_from_a_to_b, s_from_a_to_c, s_from_b_to_a, no_p_beside_an_s, a_p_is_no_a, an_a_is_no_p, p_is_no_turned_s, has_a_p, is_p, share_a_p, has_a_p_with_an_s, some_loop, seven_in_a_row, is_s, unsafe_head, has_neighbours, some_p, with_a_p};
 ghost use Rattle.dl_terms.specs.declared.role.Basic.TheVariants.{Class, SomeOf};
 ghost use Rattle.dl_terms.specs.declared.role.Negative.TheVariants.{Basics, Roles, NoLoop};
 ghost use Rattle.dl_terms.specs.declared.axiom.Part.TheVariants as part;
@@ -52,12 +52,12 @@ pub fn answer_examples()
 /// The first broken axioms of small ontologies.
 pub fn broken_examples()
     // A below some P in C, what has an incoming P is a D, and C and D are disjoint.
-    ensures at_an_unnamed { IsFirstBroken a_filler_in_c_and_d (a_is_an_a ∷ []) None
+    ensures at_an_unnamed { IsFirstBroken a_auxiliary_in_c_and_d (a_is_an_a ∷ []) None
         (Some c_and_d_are_disjoint) }
     ensures at_no_name { (n : ℕ) →
-        HoldsAt a_filler_in_c_and_d (a_is_an_a ∷ []) (Class class_c) (individual n)
-        → ¬ HoldsAt a_filler_in_c_and_d (a_is_an_a ∷ []) (Class class_d) (individual n) }
-    ensures without_the_fact { NothingIsBroken a_filler_in_c_and_d [] None }
+        HoldsAt a_auxiliary_in_c_and_d (a_is_an_a ∷ []) (Class class_c) (individual n)
+        → ¬ HoldsAt a_auxiliary_in_c_and_d (a_is_an_a ∷ []) (Class class_d) (individual n) }
+    ensures without_the_fact { NothingIsBroken a_auxiliary_in_c_and_d [] None }
 
     // P is asymmetric and irreflexive, and P(a, a). Axioms are tested in their order.
     ensures asymmetry_first { IsFirstBroken (p_is_asymmetric ∷ p_is_irreflexive ∷ [])
@@ -108,7 +108,7 @@ pub fn reply_examples()
 
     // Where something is broken, that is the reply to each query.
     ensures broken { (q : Query) (limit : ℕ) →
-        IsReply a_filler_in_c_and_d (a_is_an_a ∷ []) None q limit
+        IsReply a_auxiliary_in_c_and_d (a_is_an_a ∷ []) None q limit
         (inconsistent (Some c_and_d_are_disjoint)) }
 {}
 

@@ -8,7 +8,7 @@ use Rattle.dl_terms.specs.Order.{base_cmp}
 use Rattle.dl_terms.specs.Sets.{IsSetOf}
 use Rattle.dl_terms.specs.contracts.role.BaseOrd.TheImpl as base_impl
 use Rattle.dl_terms.specs.declared.role.Base.{Base}
-use Rattle.dl_terms.specs.declared.role.Base.TheVariants.{Named, Filler}
+use Rattle.dl_terms.specs.declared.role.Base.TheVariants.{Named, Auxiliary}
 use Rattle.dl_terms.specs.declared.role.Role.{Role}
 use Rattle.dl_terms.specs.declared.role.Basic.{Basic}
 use Rattle.dl_terms.specs.declared.role.Basic.TheVariants.{Class, SomeOf}
@@ -19,8 +19,8 @@ use Rattle.dl_terms.specs.declared.axiom.Signature.{Signature}
 use Rattle.dl_terms.proofs.OrderLemmas.{numbers_linear, bases_linear}
 use Rattle.dl_terms.proofs.DerivedLemmas as derived
 use Rattle.dl_terms.proofs.MemberLemmas.{Contains-first}
-use Rattle.dl_hier.specs.Predicates.{max_predicates, Predicates, bases, roles, basics, IsFiller, AreInOrder}
-use Rattle.dl_hier.specs.Rows.{IsNamedIn, IsBasicIn, HasNames, base_fillers, role_fillers, basic_fillers, negative_fillers, normal_fillers, AreFew, ArePredicatesOf}
+use Rattle.dl_hier.specs.Predicates.{max_predicates, Predicates, bases, roles, basics, IsAuxiliary, AreInOrder}
+use Rattle.dl_hier.specs.Rows.{IsNamedIn, IsBasicIn, HasNames, base_auxiliaries, role_auxiliaries, basic_auxiliaries, negative_auxiliaries, normal_auxiliaries, AreFew, ArePredicatesOf}
 use Rattle.dl_hier.proofs.SortedLemmas.{no_longer, IsSetOf-no_longer}
 use Rattle.dl_hier.proofs.MemberLemmas.{Contains-map_of, Contains-flat_map_of, All-flat_map}
 use Rattle.dl_hier.proofs.PredicateLemmas.{base-role, role-base, known-class, known-some, property-known, class-known, some-known}
@@ -29,100 +29,100 @@ use Rattle.dl_hier.proofs.PredicateLemmas.{base-role, role-base, known-class, kn
 pub base_order : (base_impl.cmp-value).it ≡ base_cmp
 base_order = fun_ext (λ a. fun_ext (λ b. derived.bases a b))
 
--- ---- fillers
+-- ---- auxiliary roles
 
-fillers_of_base : (b : Base) → All IsFiller (base_fillers b)
-fillers_of_base (Named p) = All-nil IsFiller
-fillers_of_base (Filler p i c) = All-cons IsFiller (Filler p i c) [] tt (All-nil IsFiller)
+auxiliaries_of_base : (b : Base) → All IsAuxiliary (base_auxiliaries b)
+auxiliaries_of_base (Named p) = All-nil IsAuxiliary
+auxiliaries_of_base (Auxiliary p i c) = All-cons IsAuxiliary (Auxiliary p i c) [] tt (All-nil IsAuxiliary)
 
-fillers_of_basic : (b : Basic) → All IsFiller (basic_fillers b)
-fillers_of_basic (Class c) = All-nil IsFiller
-fillers_of_basic (SomeOf r) = fillers_of_base r.base
+auxiliaries_of_basic : (b : Basic) → All IsAuxiliary (basic_auxiliaries b)
+auxiliaries_of_basic (Class c) = All-nil IsAuxiliary
+auxiliaries_of_basic (SomeOf r) = auxiliaries_of_base r.base
 
-fillers_of_negative : (n : Negative) → All IsFiller (negative_fillers n)
-fillers_of_negative (Basics b c) = All-append IsFiller (basic_fillers b) (basic_fillers c) (fillers_of_basic b) (fillers_of_basic c)
-fillers_of_negative (Roles r s) = All-append IsFiller (role_fillers r) (role_fillers s) (fillers_of_base r.base) (fillers_of_base s.base)
-fillers_of_negative (NoLoop r) = fillers_of_base r.base
+auxiliaries_of_negative : (n : Negative) → All IsAuxiliary (negative_auxiliaries n)
+auxiliaries_of_negative (Basics b c) = All-append IsAuxiliary (basic_auxiliaries b) (basic_auxiliaries c) (auxiliaries_of_basic b) (auxiliaries_of_basic c)
+auxiliaries_of_negative (Roles r s) = All-append IsAuxiliary (role_auxiliaries r) (role_auxiliaries s) (auxiliaries_of_base r.base) (auxiliaries_of_base s.base)
+auxiliaries_of_negative (NoLoop r) = auxiliaries_of_base r.base
 
 -- what a list has of each item, it has of all
-each_of : {A : Type 0} (f : A → List Base) → ((x : A) → All IsFiller (f x)) → (xs : List A) → All IsFiller (flat_map f xs)
-each_of f each xs = All-flat_map IsFiller (λ x. Unit {0}) f (λ x h. each x) xs (λ k d h. tt)
+each_of : {A : Type 0} (f : A → List Base) → ((x : A) → All IsAuxiliary (f x)) → (xs : List A) → All IsAuxiliary (flat_map f xs)
+each_of f each xs = All-flat_map IsAuxiliary (λ x. Unit {0}) f (λ x h. each x) xs (λ k d h. tt)
 
-only_fillers : (normal : Normal) → All IsFiller (normal_fillers normal)
-only_fillers normal =
-    All-append IsFiller
-    (flat_map (λ p. role_fillers p.0 ++ role_fillers p.1) normal.roles ++ flat_map (λ p. basic_fillers p.0 ++ basic_fillers p.1) normal.concepts)
-    (flat_map (λ p. negative_fillers p.1) normal.negatives)
-    (All-append IsFiller (flat_map (λ p. role_fillers p.0 ++ role_fillers p.1) normal.roles)
-    (flat_map (λ p. basic_fillers p.0 ++ basic_fillers p.1) normal.concepts)
-    (each_of (λ (p : Role × Role). role_fillers p.0 ++ role_fillers p.1)
-    (λ p. All-append IsFiller (role_fillers p.0) (role_fillers p.1) (fillers_of_base p.0.base) (fillers_of_base p.1.base)) normal.roles)
-    (each_of (λ (p : Basic × Basic). basic_fillers p.0 ++ basic_fillers p.1)
-    (λ p. All-append IsFiller (basic_fillers p.0) (basic_fillers p.1) (fillers_of_basic p.0) (fillers_of_basic p.1)) normal.concepts))
-    (each_of (λ (p : ℕ × Negative). negative_fillers p.1) (λ p. fillers_of_negative p.1) normal.negatives)
+only_auxiliaries : (normal : Normal) → All IsAuxiliary (normal_auxiliaries normal)
+only_auxiliaries normal =
+    All-append IsAuxiliary
+    (flat_map (λ p. role_auxiliaries p.0 ++ role_auxiliaries p.1) normal.roles ++ flat_map (λ p. basic_auxiliaries p.0 ++ basic_auxiliaries p.1) normal.concepts)
+    (flat_map (λ p. negative_auxiliaries p.1) normal.negatives)
+    (All-append IsAuxiliary (flat_map (λ p. role_auxiliaries p.0 ++ role_auxiliaries p.1) normal.roles)
+    (flat_map (λ p. basic_auxiliaries p.0 ++ basic_auxiliaries p.1) normal.concepts)
+    (each_of (λ (p : Role × Role). role_auxiliaries p.0 ++ role_auxiliaries p.1)
+    (λ p. All-append IsAuxiliary (role_auxiliaries p.0) (role_auxiliaries p.1) (auxiliaries_of_base p.0.base) (auxiliaries_of_base p.1.base)) normal.roles)
+    (each_of (λ (p : Basic × Basic). basic_auxiliaries p.0 ++ basic_auxiliaries p.1)
+    (λ p. All-append IsAuxiliary (basic_auxiliaries p.0) (basic_auxiliaries p.1) (auxiliaries_of_basic p.0) (auxiliaries_of_basic p.1)) normal.concepts))
+    (each_of (λ (p : ℕ × Negative). negative_auxiliaries p.1) (λ p. auxiliaries_of_negative p.1) normal.negatives)
 
--- the sets of the signature's names and of the fillers are in order, and few where the condition says so
+-- the sets of the signature's names and of the auxiliary roles are in order, and few where the condition says so
 pub AreInOrder-sets : (signature : Signature) (normal : Normal) (p : Predicates) → AreFew signature normal → ArePredicatesOf signature normal p → AreInOrder p
 AreInOrder-sets signature normal p few are = record {
   classes = are.classes.ascending;
   properties = are.properties.ascending;
-  fillers = are.fillers.ascending;
-  only_fillers = λ k d h.
-      let b = get_or p.fillers k d in
-      All-contains IsFiller (normal_fillers normal) b (only_fillers normal) ((are.fillers.members b).0 (Contains-get_or p.fillers k d h));
+  auxiliaries = are.auxiliaries.ascending;
+  only_auxiliaries = λ k d h.
+      let b = get_or p.auxiliaries k d in
+      All-contains IsAuxiliary (normal_auxiliaries normal) b (only_auxiliaries normal) ((are.auxiliaries.members b).0 (Contains-get_or p.auxiliaries k d h));
   few =
       let one = IsSetOf-no_longer numbers_linear.total p.classes signature.classes are.classes in
       let two = IsSetOf-no_longer numbers_linear.total p.properties signature.roles are.properties in
-      let three = no_longer bases_linear.total p.fillers few.fillers are.fillers.ascending
-      (λ b c. All-contains (Contains few.fillers) (normal_fillers normal) b few.each ((are.fillers.members b).0 c)) in
+      let three = no_longer bases_linear.total p.auxiliaries few.auxiliaries are.auxiliaries.ascending
+      (λ b c. All-contains (Contains few.auxiliaries) (normal_auxiliaries normal) b few.each ((are.auxiliaries.members b).0 c)) in
       omega (arith, one, two, three, few.few);
 }
 
 -- the sets of copies of the lists
-pub ArePredicatesOf-sets : (signature : Signature) (normal : Normal) (cs ps : List ℕ) (fs : List Base) (classes properties : List ℕ) (fillers : List Base)
-    → cs ≡ signature.classes → ps ≡ signature.roles → fs ≡ normal_fillers normal → IsSetOf nat_cmp classes cs → IsSetOf nat_cmp properties ps
-    → IsSetOf (base_impl.cmp-value).it fillers fs
-    → ArePredicatesOf signature normal (record { classes = classes; properties = properties; fillers = fillers })
-ArePredicatesOf-sets signature normal cs ps fs classes properties fillers e f g c p b = record {
+pub ArePredicatesOf-sets : (signature : Signature) (normal : Normal) (cs ps : List ℕ) (fs : List Base) (classes properties : List ℕ) (auxiliaries : List Base)
+    → cs ≡ signature.classes → ps ≡ signature.roles → fs ≡ normal_auxiliaries normal → IsSetOf nat_cmp classes cs → IsSetOf nat_cmp properties ps
+    → IsSetOf (base_impl.cmp-value).it auxiliaries fs
+    → ArePredicatesOf signature normal (record { classes = classes; properties = properties; auxiliaries = auxiliaries })
+ArePredicatesOf-sets signature normal cs ps fs classes properties auxiliaries e f g c p b = record {
   classes = subst (IsSetOf nat_cmp classes) e c;
   properties = subst (IsSetOf nat_cmp properties) f p;
-  fillers = subst (IsSetOf base_cmp fillers) g (subst (λ R. IsSetOf R fillers fs) base_order b);
+  auxiliaries = subst (IsSetOf base_cmp auxiliaries) g (subst (λ R. IsSetOf R auxiliaries fs) base_order b);
 }
 
 -- ---- names that are known
 
 module _ (signature : Signature) (normal : Normal) (p : Predicates) (are : ArePredicatesOf signature normal p) where
-  base_known : (b : Base) → IsNamedIn signature.roles b → ((c : Base) → Contains (base_fillers b) c → Contains (normal_fillers normal) c) → Contains (bases p) b
+  base_known : (b : Base) → IsNamedIn signature.roles b → ((c : Base) → Contains (base_auxiliaries b) c → Contains (normal_auxiliaries normal) c) → Contains (bases p) b
   base_known (Named q) has within =
-      Contains-append_left (map Named p.properties) p.fillers (Named q) (Contains-map_of Named p.properties q ((are.properties.members q).1 has))
-  base_known (Filler q i c) has within =
-      Contains-append_right (map Named p.properties) p.fillers (Filler q i c)
-      ((are.fillers.members (Filler q i c)).1 (within (Filler q i c) (Contains-first (Filler q i c) [])))
+      Contains-append_left (map Named p.properties) p.auxiliaries (Named q) (Contains-map_of Named p.properties q ((are.properties.members q).1 has))
+  base_known (Auxiliary q i c) has within =
+      Contains-append_right (map Named p.properties) p.auxiliaries (Auxiliary q i c)
+      ((are.auxiliaries.members (Auxiliary q i c)).1 (within (Auxiliary q i c) (Contains-first (Auxiliary q i c) [])))
 
-  basic_known : (b : Basic) → IsBasicIn signature.classes signature.roles b → ((c : Base) → Contains (basic_fillers b) c → Contains (normal_fillers normal) c) → Contains (basics p) b
+  basic_known : (b : Basic) → IsBasicIn signature.classes signature.roles b → ((c : Base) → Contains (basic_auxiliaries b) c → Contains (normal_auxiliaries normal) c) → Contains (basics p) b
   basic_known (Class c) has within = known-class p c ((are.classes.members c).1 has)
   basic_known (SomeOf r) has within = known-some p r (base-role p r (base_known r.base has within))
 
   abbrev of_roles : List Base
-  of_roles = flat_map (λ q. role_fillers q.0 ++ role_fillers q.1) normal.roles
+  of_roles = flat_map (λ q. role_auxiliaries q.0 ++ role_auxiliaries q.1) normal.roles
 
   abbrev of_concepts : List Base
-  of_concepts = flat_map (λ q. basic_fillers q.0 ++ basic_fillers q.1) normal.concepts
+  of_concepts = flat_map (λ q. basic_auxiliaries q.0 ++ basic_auxiliaries q.1) normal.concepts
 
   abbrev of_negatives : List Base
-  of_negatives = flat_map (λ q. negative_fillers q.1) normal.negatives
+  of_negatives = flat_map (λ q. negative_auxiliaries q.1) normal.negatives
 
-  role_filler : (row : Role × Role) → Contains normal.roles row → (c : Base) → Contains (role_fillers row.0 ++ role_fillers row.1) c
-      → Contains (normal_fillers normal) c
-  role_filler row has c h =
+  role_auxiliary : (row : Role × Role) → Contains normal.roles row → (c : Base) → Contains (role_auxiliaries row.0 ++ role_auxiliaries row.1) c
+      → Contains (normal_auxiliaries normal) c
+  role_auxiliary row has c h =
       Contains-append_left (of_roles ++ of_concepts) of_negatives c (Contains-append_left of_roles of_concepts c
-      (Contains-flat_map_of (λ q. role_fillers q.0 ++ role_fillers q.1) normal.roles row c has h))
+      (Contains-flat_map_of (λ q. role_auxiliaries q.0 ++ role_auxiliaries q.1) normal.roles row c has h))
 
-  concept_filler : (row : Basic × Basic) → Contains normal.concepts row → (c : Base) → Contains (basic_fillers row.0 ++ basic_fillers row.1) c
-      → Contains (normal_fillers normal) c
-  concept_filler row has c h =
+  concept_auxiliary : (row : Basic × Basic) → Contains normal.concepts row → (c : Base) → Contains (basic_auxiliaries row.0 ++ basic_auxiliaries row.1) c
+      → Contains (normal_auxiliaries normal) c
+  concept_auxiliary row has c h =
       Contains-append_left (of_roles ++ of_concepts) of_negatives c (Contains-append_right of_roles of_concepts c
-      (Contains-flat_map_of (λ q. basic_fillers q.0 ++ basic_fillers q.1) normal.concepts row c has h))
+      (Contains-flat_map_of (λ q. basic_auxiliaries q.0 ++ basic_auxiliaries q.1) normal.concepts row c has h))
 
   -- both sides of each inclusion are in the hierarchy
   pub role_rows_known : HasNames signature normal → All (λ q. Contains (roles p) q.0 × Contains (roles p) q.1) normal.roles
@@ -131,9 +131,9 @@ module _ (signature : Signature) (normal : Normal) (p : Predicates) (are : ArePr
       let has = Contains-get_or normal.roles k d h in
       let named = names.roles k d h in (
         base-role p row.0 (base_known row.0.base named.0
-            (λ c m. role_filler row has c (Contains-append_left (role_fillers row.0) (role_fillers row.1) c m))),
+            (λ c m. role_auxiliary row has c (Contains-append_left (role_auxiliaries row.0) (role_auxiliaries row.1) c m))),
         base-role p row.1 (base_known row.1.base named.1
-            (λ c m. role_filler row has c (Contains-append_right (role_fillers row.0) (role_fillers row.1) c m))),
+            (λ c m. role_auxiliary row has c (Contains-append_right (role_auxiliaries row.0) (role_auxiliaries row.1) c m))),
       )
 
   pub concept_rows_known : HasNames signature normal → All (λ q. Contains (basics p) q.0 × Contains (basics p) q.1) normal.concepts
@@ -141,16 +141,16 @@ module _ (signature : Signature) (normal : Normal) (p : Predicates) (are : ArePr
       let row = get_or normal.concepts k d in
       let has = Contains-get_or normal.concepts k d h in
       let named = names.concepts k d h in (
-        basic_known row.0 named.0 (λ c m. concept_filler row has c (Contains-append_left (basic_fillers row.0) (basic_fillers row.1) c m)),
-        basic_known row.1 named.1 (λ c m. concept_filler row has c (Contains-append_right (basic_fillers row.0) (basic_fillers row.1) c m)),
+        basic_known row.0 named.0 (λ c m. concept_auxiliary row has c (Contains-append_left (basic_auxiliaries row.0) (basic_auxiliaries row.1) c m)),
+        basic_known row.1 named.1 (λ c m. concept_auxiliary row has c (Contains-append_right (basic_auxiliaries row.0) (basic_auxiliaries row.1) c m)),
       )
 
--- ---- the test of names and fillers
+-- ---- the test of names and auxiliary roles
 
 module _ (signature : Signature) (normal : Normal) (p : Predicates) (are : ArePredicatesOf signature normal p) (order : AreInOrder p) where
   base_named : (b : Base) → Contains (bases p) b → IsNamedIn signature.roles b
   base_named (Named q) c = (are.properties.members q).0 (property-known p order q c)
-  base_named (Filler q i d) c = tt
+  base_named (Auxiliary q i d) c = tt
 
   basic_named : (b : Basic) → Contains (basics p) b → IsBasicIn signature.classes signature.roles b
   basic_named (Class c) h = (are.classes.members c).0 (class-known p c h)
@@ -197,17 +197,17 @@ few_counted cs ps fs a b d names total e f g sum all = (
   λ h. le-leb total max_predicates (omega (arith, h, e, f, g, sum, all)),
 )
 
--- few, where the set of the fillers makes it so
-pub few_told : (signature : Signature) (normal : Normal) (set : List Base) → IsSetOf (base_impl.cmp-value).it set (normal_fillers normal) → (answer : Bool)
+-- few, where the set of the auxiliary roles makes it so
+pub few_told : (signature : Signature) (normal : Normal) (set : List Base) → IsSetOf (base_impl.cmp-value).it set (normal_auxiliaries normal) → (answer : Bool)
     → IsTrue answer ↔ (length signature.classes + length signature.roles + length set ≤ max_predicates) → IsTrue answer ↔ AreFew signature normal
 few_told signature normal set is answer says =
-    let ascending : IsSetOf base_cmp set (normal_fillers normal) = subst (λ R. IsSetOf R set (normal_fillers normal)) base_order is in (
+    let ascending : IsSetOf base_cmp set (normal_auxiliaries normal) = subst (λ R. IsSetOf R set (normal_auxiliaries normal)) base_order is in (
       λ h. record {
-        fillers = set;
-        each = λ k d w. (ascending.members (get_or (normal_fillers normal) k d)).1 (Contains-get_or (normal_fillers normal) k d w);
+        auxiliaries = set;
+        each = λ k d w. (ascending.members (get_or (normal_auxiliaries normal) k d)).1 (Contains-get_or (normal_auxiliaries normal) k d w);
         few = says.0 h;
       },
-      λ h. says.1 (let shorter = no_longer bases_linear.total set h.fillers ascending.ascending
-          (λ b c. All-contains (Contains h.fillers) (normal_fillers normal) b h.each ((ascending.members b).0 c)) in
+      λ h. says.1 (let shorter = no_longer bases_linear.total set h.auxiliaries ascending.ascending
+          (λ b c. All-contains (Contains h.auxiliaries) (normal_auxiliaries normal) b h.each ((ascending.members b).0 c)) in
           let few = h.few in omega (arith, shorter, few)),
     )

@@ -9,12 +9,12 @@ use Rattle.std.proofs.lemmas.List.Elements.{All-from_recursion, All-nil, All-con
 use Rattle.dl_terms.specs.Roles.{inverse_of}
 use Rattle.dl_terms.specs.Order.{flag, base_cmp, role_cmp, basic_cmp}
 use Rattle.dl_terms.specs.declared.role.Base.{Base}
-use Rattle.dl_terms.specs.declared.role.Base.TheVariants.{Named, Filler}
+use Rattle.dl_terms.specs.declared.role.Base.TheVariants.{Named, Auxiliary}
 use Rattle.dl_terms.specs.declared.role.Role.{Role}
 use Rattle.dl_terms.specs.declared.role.Basic.{Basic}
 use Rattle.dl_terms.specs.declared.role.Basic.TheVariants.{Class, SomeOf}
 use Rattle.dl_terms.proofs.OrderLemmas.{bases_linear, roles_linear, basics_linear}
-use Rattle.dl_hier.specs.Predicates.{Predicates, both_ways, bases, roles, basics, IsFiller, AreInOrder}
+use Rattle.dl_hier.specs.Predicates.{Predicates, both_ways, bases, roles, basics, IsAuxiliary, AreInOrder}
 use Rattle.dl_hier.specs.Nodes.{StandsAt}
 use Rattle.dl_hier.proofs.SortedLemmas.{sorted-append, sorted-map, one_index}
 use Rattle.dl_hier.proofs.MemberLemmas.{Contains-map, Contains-map_of, Contains-flat_map, All-flat_map, StandsAt-Contains, StandsAt-map, StandsAt-left, StandsAt-right}
@@ -25,19 +25,19 @@ way b i = record { base = b; inverse = i }
 
 -- ---- in order
 
-named_below_fillers : (p : ℕ) (b : Base) → IsFiller b → base_cmp (Named p) b ≡ Less
-named_below_fillers p (Named q) h = absurd h
-named_below_fillers p (Filler q i c) h = refl
+named_below_auxiliaries : (p : ℕ) (b : Base) → IsAuxiliary b → base_cmp (Named p) b ≡ Less
+named_below_auxiliaries p (Named q) h = absurd h
+named_below_auxiliaries p (Auxiliary q i c) h = refl
 
 module _ (p : Predicates) (order : AreInOrder p) where
   pub bases-ascend : IsStrictlySortedBy base_cmp (bases p)
   bases-ascend =
-      sorted-append base_cmp (map Named p.properties) p.fillers (sorted-map nat_cmp base_cmp Named (λ x y. refl) p.properties order.properties)
-      order.fillers
-      (All-map (λ b. All (λ c. base_cmp b c ≡ Less) p.fillers) Named p.properties
-      (All-from_get_or (λ q. All (λ c. base_cmp (Named q) c ≡ Less) p.fillers) p.properties 0
-      (λ i h. All-weaker IsFiller (λ c. base_cmp (Named (get_or p.properties i 0)) c ≡ Less) (named_below_fillers (get_or p.properties i 0)) p.fillers
-      order.only_fillers)))
+      sorted-append base_cmp (map Named p.properties) p.auxiliaries (sorted-map nat_cmp base_cmp Named (λ x y. refl) p.properties order.properties)
+      order.auxiliaries
+      (All-map (λ b. All (λ c. base_cmp b c ≡ Less) p.auxiliaries) Named p.properties
+      (All-from_get_or (λ q. All (λ c. base_cmp (Named q) c ≡ Less) p.auxiliaries) p.properties 0
+      (λ i h. All-weaker IsAuxiliary (λ c. base_cmp (Named (get_or p.properties i 0)) c ≡ Less) (named_below_auxiliaries (get_or p.properties i 0)) p.auxiliaries
+      order.only_auxiliaries)))
 
 -- a role comes before those of later role names
 way_below : (r : Role) (c : Base) → base_cmp r.base c ≡ Less → All (λ s. role_cmp r s ≡ Less) (both_ways c)
@@ -94,9 +94,9 @@ length-ways (b ∷ bs) =
     let more = length-ways bs in
     omega (arith, more)
 
-pub length-roles : (p : Predicates) → length (roles p) ≡ 2 * (length p.properties + length p.fillers)
+pub length-roles : (p : Predicates) → length (roles p) ≡ 2 * (length p.properties + length p.auxiliaries)
 length-roles p =
-    let split = length-append (map Named p.properties) p.fillers in
+    let split = length-append (map Named p.properties) p.auxiliaries in
     let same = length-map p.properties Named in
     let twice = length-ways (bases p) in
     omega (arith, split, same, twice)
@@ -138,11 +138,11 @@ inverse-known p r c = base-role p (inverse_of r) (role-base p r c)
 
 module _ (p : Predicates) where
   pub role-at_property : {i q : ℕ} (inverse : Bool) → StandsAt p.properties i q → StandsAt (roles p) (2 * i + flag inverse) (way (Named q) inverse)
-  role-at_property {i} {q} inverse s = way-at (bases p) i (Named q) inverse (StandsAt-left p.fillers (StandsAt-map Named s))
+  role-at_property {i} {q} inverse s = way-at (bases p) i (Named q) inverse (StandsAt-left p.auxiliaries (StandsAt-map Named s))
 
-  pub role-at_filler : {i : ℕ} {b : Base} (inverse : Bool) → StandsAt p.fillers i b
+  pub role-at_auxiliary : {i : ℕ} {b : Base} (inverse : Bool) → StandsAt p.auxiliaries i b
       → StandsAt (roles p) (2 * (length p.properties + i) + flag inverse) (way b inverse)
-  role-at_filler {i} {b} inverse s =
+  role-at_auxiliary {i} {b} inverse s =
       way-at (bases p) (length p.properties + i) b inverse
       (subst (λ n. StandsAt (bases p) (n + i) b) (length-map p.properties Named) (StandsAt-right (map Named p.properties) s))
 
@@ -157,21 +157,21 @@ module _ (p : Predicates) where
 
 abbrev property_of : Base → ℕ
 property_of (Named q) = q
-property_of (Filler q i c) = 0
+property_of (Auxiliary q i c) = 0
 
 pub property-known : (p : Predicates) → AreInOrder p → (q : ℕ) → Contains (bases p) (Named q) → Contains p.properties q
 property-known p order q c =
     ⊎_elim (λ (named : Contains (map Named p.properties) (Named q)).
     let w = Contains-map Named p.properties (Named q) named in subst (Contains p.properties) (ap property_of w.2) w.1)
-    (λ (filler : Contains p.fillers (Named q)). absurd (All-contains IsFiller p.fillers (Named q) order.only_fillers filler))
-    (Contains-append_cases (map Named p.properties) p.fillers (Named q) c)
+    (λ (auxiliary : Contains p.auxiliaries (Named q)). absurd (All-contains IsAuxiliary p.auxiliaries (Named q) order.only_auxiliaries auxiliary))
+    (Contains-append_cases (map Named p.properties) p.auxiliaries (Named q) c)
 
-pub filler-known : (p : Predicates) (b : Base) → IsFiller b → Contains (bases p) b → Contains p.fillers b
-filler-known p (Named q) h c = absurd h
-filler-known p (Filler q i d) h c =
-    ⊎_elim (λ (named : Contains (map Named p.properties) (Filler q i d)).
-    let w = Contains-map Named p.properties (Filler q i d) named in cc)
-    (λ (filler : Contains p.fillers (Filler q i d)). filler) (Contains-append_cases (map Named p.properties) p.fillers (Filler q i d) c)
+pub auxiliary-known : (p : Predicates) (b : Base) → IsAuxiliary b → Contains (bases p) b → Contains p.auxiliaries b
+auxiliary-known p (Named q) h c = absurd h
+auxiliary-known p (Auxiliary q i d) h c =
+    ⊎_elim (λ (named : Contains (map Named p.properties) (Auxiliary q i d)).
+    let w = Contains-map Named p.properties (Auxiliary q i d) named in cc)
+    (λ (auxiliary : Contains p.auxiliaries (Auxiliary q i d)). auxiliary) (Contains-append_cases (map Named p.properties) p.auxiliaries (Auxiliary q i d) c)
 
 abbrev class_of : Basic → ℕ
 class_of (Class c) = c
@@ -215,13 +215,13 @@ pub role-at : (p : Predicates) (i : ℕ) (r : Role) → StandsAt (bases p) i r.b
 role-at p i r s = way-at (bases p) i r.base r.inverse s
 
 pub base-at_property : (p : Predicates) (i q : ℕ) → StandsAt p.properties i q → StandsAt (bases p) i (Named q)
-base-at_property p i q s = StandsAt-left p.fillers (StandsAt-map Named s)
+base-at_property p i q s = StandsAt-left p.auxiliaries (StandsAt-map Named s)
 
-pub base-at_filler : (p : Predicates) (i : ℕ) (b : Base) → StandsAt p.fillers i b → StandsAt (bases p) (length p.properties + i) b
-base-at_filler p i b s = subst (λ n. StandsAt (bases p) (n + i) b) (length-map p.properties Named) (StandsAt-right (map Named p.properties) s)
+pub base-at_auxiliary : (p : Predicates) (i : ℕ) (b : Base) → StandsAt p.auxiliaries i b → StandsAt (bases p) (length p.properties + i) b
+base-at_auxiliary p i b s = subst (λ n. StandsAt (bases p) (n + i) b) (length-map p.properties Named) (StandsAt-right (map Named p.properties) s)
 
-pub length-bases : (p : Predicates) → length (bases p) ≡ length p.properties + length p.fillers
+pub length-bases : (p : Predicates) → length (bases p) ≡ length p.properties + length p.auxiliaries
 length-bases p =
-    let split = length-append (map Named p.properties) p.fillers in
+    let split = length-append (map Named p.properties) p.auxiliaries in
     let same = length-map p.properties Named in
     omega (arith, split, same)

@@ -5,18 +5,18 @@ use Rattle.std.specs.List.Sorted.{IsStrictlySortedBy}
 use Rattle.std.specs.Ordering.{nat_cmp}
 use Rattle.dl_terms.specs.Order.{base_cmp}
 use Rattle.dl_terms.specs.declared.role.Base.{Base}
-use Rattle.dl_terms.specs.declared.role.Base.TheVariants.{Named, Filler}
+use Rattle.dl_terms.specs.declared.role.Base.TheVariants.{Named, Auxiliary}
 use Rattle.dl_terms.specs.declared.role.Role.{Role}
 use Rattle.dl_terms.specs.declared.role.Basic.{Basic}
 use Rattle.dl_terms.specs.declared.role.Basic.TheVariants.{Class, SomeOf}
 
--- the classes and object properties of a signature, and the fillers of a normal form
+-- the classes and object properties of a signature, and the auxiliary roles of a normal form
 pub record Predicates : Type 0 where
   pub classes : List ℕ
   pub properties : List ℕ
-  pub fillers : List Base
+  pub auxiliaries : List Base
 
--- the most classes, object properties and fillers together
+-- the most classes, object properties and auxiliary roles together
 abbrev pub max_predicates : ℕ
 max_predicates = 4096
 
@@ -24,9 +24,9 @@ max_predicates = 4096
 abbrev pub both_ways : Base → List Role
 both_ways b = record { base = b; inverse = false } ∷ record { base = b; inverse = true } ∷ []
 
--- the role names: of properties and of fillers
+-- the role names: of properties and of auxiliary roles
 abbrev pub bases : Predicates → List Base
-bases p = map Named p.properties ++ p.fillers
+bases p = map Named p.properties ++ p.auxiliaries
 
 -- the roles, each role name plain and inverse
 abbrev pub roles : Predicates → List Role
@@ -36,14 +36,14 @@ roles p = flat_map both_ways (bases p)
 abbrev pub basics : Predicates → List Basic
 basics p = map Class p.classes ++ map SomeOf (roles p)
 
-abbrev pub IsFiller : Base → Type 0
-IsFiller (Named p) = ⊥
-IsFiller (Filler p i c) = Unit {0}
+abbrev pub IsAuxiliary : Base → Type 0
+IsAuxiliary (Named p) = ⊥
+IsAuxiliary (Auxiliary p i c) = Unit {0}
 
 -- each list ascends strictly, and together they are few
 pub record AreInOrder (p : Predicates) : Type 0 where
   pub classes : IsStrictlySortedBy nat_cmp p.classes
   pub properties : IsStrictlySortedBy nat_cmp p.properties
-  pub fillers : IsStrictlySortedBy base_cmp p.fillers
-  pub only_fillers : All IsFiller p.fillers
-  pub few : length p.classes + length p.properties + length p.fillers ≤ max_predicates
+  pub auxiliaries : IsStrictlySortedBy base_cmp p.auxiliaries
+  pub only_auxiliaries : All IsAuxiliary p.auxiliaries
+  pub few : length p.classes + length p.properties + length p.auxiliaries ≤ max_predicates

@@ -1,5 +1,5 @@
 -- The rows of a normal form from which a hierarchy is built, and what they name. The steps are the inclusions of
--- DL-Lite_R; fillers are this project's own.
+-- DL-Lite_R; auxiliary roles are this project's own.
 use Rattle.std.specs.Prelude.{◌≡◌, ℕ, ◌+◌, ◌≤◌, List, [], ◌∷◌, ◌++◌, map, length, All, Contains}
 use Rattle.std.specs.List.{flat_map}
 use Rattle.std.specs.Ordering.{nat_cmp}
@@ -8,7 +8,7 @@ use Rattle.dl_terms.specs.Roles.{inverse_of}
 use Rattle.dl_terms.specs.Sets.{IsSetOf}
 use Rattle.dl_terms.specs.NormalForm.{role_inclusions, concept_inclusions}
 use Rattle.dl_terms.specs.declared.role.Base.{Base}
-use Rattle.dl_terms.specs.declared.role.Base.TheVariants.{Named, Filler}
+use Rattle.dl_terms.specs.declared.role.Base.TheVariants.{Named, Auxiliary}
 use Rattle.dl_terms.specs.declared.role.Role.{Role}
 use Rattle.dl_terms.specs.declared.role.Basic.{Basic}
 use Rattle.dl_terms.specs.declared.role.Basic.TheVariants.{Class, SomeOf}
@@ -24,10 +24,10 @@ pub record HasInclusions (axioms : List Axiom) (normal : Normal) : Type 0 where
   pub roles : normal.roles ≡ role_inclusions axioms
   pub concepts : normal.concepts ≡ concept_inclusions axioms
 
--- the name is among these; a filler needs none
+-- the name is among these; an auxiliary role needs none
 abbrev pub IsNamedIn : List ℕ → Base → Type 0
 IsNamedIn properties (Named p) = Contains properties p
-IsNamedIn properties (Filler p i c) = Unit {0}
+IsNamedIn properties (Auxiliary p i c) = Unit {0}
 
 abbrev pub IsBasicIn : List ℕ → List ℕ → Basic → Type 0
 IsBasicIn classes properties (Class c) = Contains classes c
@@ -40,41 +40,41 @@ pub record HasNames (signature : Signature) (normal : Normal) : Type 0 where
       All (λ p. IsBasicIn signature.classes signature.roles p.0 × IsBasicIn signature.classes signature.roles p.1)
       normal.concepts
 
--- the fillers among role names
-abbrev pub base_fillers : Base → List Base
-base_fillers (Named p) = []
-base_fillers (Filler p i c) = Filler p i c ∷ []
+-- the auxiliary roles among role names
+abbrev pub base_auxiliaries : Base → List Base
+base_auxiliaries (Named p) = []
+base_auxiliaries (Auxiliary p i c) = Auxiliary p i c ∷ []
 
-abbrev pub role_fillers : Role → List Base
-role_fillers r = base_fillers r.base
+abbrev pub role_auxiliaries : Role → List Base
+role_auxiliaries r = base_auxiliaries r.base
 
-abbrev pub basic_fillers : Basic → List Base
-basic_fillers (Class c) = []
-basic_fillers (SomeOf r) = role_fillers r
+abbrev pub basic_auxiliaries : Basic → List Base
+basic_auxiliaries (Class c) = []
+basic_auxiliaries (SomeOf r) = role_auxiliaries r
 
-abbrev pub negative_fillers : Negative → List Base
-negative_fillers (Basics b c) = basic_fillers b ++ basic_fillers c
-negative_fillers (Roles r s) = role_fillers r ++ role_fillers s
-negative_fillers (NoLoop r) = role_fillers r
+abbrev pub negative_auxiliaries : Negative → List Base
+negative_auxiliaries (Basics b c) = basic_auxiliaries b ++ basic_auxiliaries c
+negative_auxiliaries (Roles r s) = role_auxiliaries r ++ role_auxiliaries s
+negative_auxiliaries (NoLoop r) = role_auxiliaries r
 
--- the fillers that a normal form names, as often as it names them
-abbrev pub normal_fillers : Normal → List Base
-normal_fillers normal =
-    flat_map (λ p. role_fillers p.0 ++ role_fillers p.1) normal.roles
-    ++ flat_map (λ p. basic_fillers p.0 ++ basic_fillers p.1) normal.concepts
-    ++ flat_map (λ p. negative_fillers p.1) normal.negatives
+-- the auxiliary roles that a normal form names, as often as it names them
+abbrev pub normal_auxiliaries : Normal → List Base
+normal_auxiliaries normal =
+    flat_map (λ p. role_auxiliaries p.0 ++ role_auxiliaries p.1) normal.roles
+    ++ flat_map (λ p. basic_auxiliaries p.0 ++ basic_auxiliaries p.1) normal.concepts
+    ++ flat_map (λ p. negative_auxiliaries p.1) normal.negatives
 
--- classes, object properties and fillers together are few: some list has each filler
+-- classes, object properties and auxiliary roles together are few: some list has each auxiliary role
 pub record AreFew (signature : Signature) (normal : Normal) : Type 0 where
-  pub fillers : List Base
-  pub each : All (Contains fillers) (normal_fillers normal)
-  pub few : length signature.classes + length signature.roles + length fillers ≤ max_predicates
+  pub auxiliaries : List Base
+  pub each : All (Contains auxiliaries) (normal_auxiliaries normal)
+  pub few : length signature.classes + length signature.roles + length auxiliaries ≤ max_predicates
 
--- the predicates are those of the signature, and the fillers that the normal form names
+-- the predicates are those of the signature, and the auxiliary roles that the normal form names
 pub record ArePredicatesOf (signature : Signature) (normal : Normal) (p : Predicates) : Type 0 where
   pub classes : IsSetOf nat_cmp p.classes signature.classes
   pub properties : IsSetOf nat_cmp p.properties signature.roles
-  pub fillers : IsSetOf base_cmp p.fillers (normal_fillers normal)
+  pub auxiliaries : IsSetOf base_cmp p.auxiliaries (normal_auxiliaries normal)
 
 -- the steps of role inclusions: each as it stands, and with both sides inverted
 abbrev pub role_steps : List (Role × Role) → List (Role × Role)

@@ -3,16 +3,16 @@ ghost use Rattle.std.specs.Prelude.{◌↔◌, All, Contains, IfOk, IsTrue};
 ghost use Rattle.dl_hier.specs.Predicates.{roles, basics};
 ghost use Rattle.dl_hier.specs.Rows.{HasNames, AreFew};
 
-use crate::fillers::fillers_of;
+use crate::auxiliaries::auxiliaries_of;
 use crate::nodes::Nodes;
 use dl_terms::{Basic, NoMemory, Normal, Role, Signature, set_of};
 use std::alloc::Global;
 
-/// The most classes, object properties and fillers together that a hierarchy may have.
+/// The most classes, object properties and auxiliary roles together that a hierarchy may have.
 pub const MAX_PREDICATES: usize = 4096;
 
 /// Whether a hierarchy can be built from these: the signature has the names of the inclusions, and classes, object
-/// properties and fillers together are at most `MAX_PREDICATES`. Fails only for want of memory.
+/// properties and auxiliary roles together are at most `MAX_PREDICATES`. Fails only for want of memory.
 pub fn fits(alloc: Global, normal: &Normal, signature: &Signature) -> Result<bool, NoMemory>
     ensures { IfOk result (λ fit. IsTrue fit ↔
         (HasNames signature.now normal.now × AreFew signature.now normal.now)) }
@@ -27,16 +27,16 @@ pub fn fits(alloc: Global, normal: &Normal, signature: &Signature) -> Result<boo
     Ok(knows_basics(&nodes, normal.concepts.as_slice()))
 }
 
-/// Whether classes, object properties and fillers together are at most `MAX_PREDICATES`.
+/// Whether classes, object properties and auxiliary roles together are at most `MAX_PREDICATES`.
 fn are_few(alloc: Global, normal: &Normal, signature: &Signature) -> Result<bool, NoMemory>
     ensures { IfOk result (λ few. IsTrue few ↔ AreFew signature.now normal.now) }
 {
-    let fillers = set_of(fillers_of(alloc, normal)?);
+    let auxiliaries = set_of(auxiliaries_of(alloc, normal)?);
     let names = signature
         .classes
         .len()
         .saturating_add(signature.roles.len());
-    Ok(names.saturating_add(fillers.len()) <= MAX_PREDICATES)
+    Ok(names.saturating_add(auxiliaries.len()) <= MAX_PREDICATES)
 }
 
 /// Whether both roles of each row are in the hierarchy.

@@ -63,11 +63,11 @@ fn slot_of_name(name: u32) -> usize {
     (name.wrapping_mul(0x9E37_79B1) >> 19) as usize
 }
 
-/// The slot of a role name: of a filler by all its parts.
+/// The slot of a role name: of an auxiliary role by all its parts.
 fn slot_of_base(base: Base) -> usize {
     match base {
         Base::Named(name) => slot_of_name(name),
-        Base::Filler {
+        Base::Auxiliary {
             role,
             inverse,
             class,

@@ -45,7 +45,7 @@ impl Model for Hier {
 
 impl Hier {
     /// The hierarchy of the inclusions of a normal form, over the predicates of a signature, which has their names.
-    /// Classes, roles and fillers together are at most 4,096. Fails only for want of memory.
+    /// Classes, roles and auxiliary roles together are at most 4,096. Fails only for want of memory.
     pub fn build(alloc: Global, normal: &Normal, signature: &Signature) -> Result<Hier, NoMemory>
         requires names { HasNames signature.now normal.now }
         requires few { AreFew signature.now normal.now }
@@ -98,7 +98,7 @@ impl Hier {
         }
     }
 
-    /// The roles of the hierarchy, ascending, each once: every object property of the signature and every filler that
+    /// The roles of the hierarchy, ascending, each once: every object property of the signature and every auxiliary role that
     /// the normal form names, each plain and inverse. It takes no memory.
     pub fn roles(&self) -> &[Role]
         ensures roles { result.now ≡ roles self.now.predicates }

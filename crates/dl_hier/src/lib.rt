@@ -1,9 +1,9 @@
 // The hierarchies of roles and of basic concepts: what is below what, by two graphs that are closed once.
 #![tactic(auto)]
 
+mod auxiliaries;
 mod below;
 mod edges;
-mod fillers;
 mod fit;
 mod guesses;
 mod hier;

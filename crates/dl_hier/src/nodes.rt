@@ -8,23 +8,23 @@ ghost use Rattle.dl_hier.specs.Predicates.{AreInOrder, max_predicates, both_ways
 ghost use Rattle.dl_hier.specs.Rows.{AreFew, ArePredicatesOf};
 ghost use Rattle.dl_hier.specs.Nodes.{StandsAt};
 
-use crate::fillers::fillers_of;
+use crate::auxiliaries::auxiliaries_of;
 use crate::guesses::Guesses;
 use dl_terms::{Base, Basic, List, NoMemory, Normal, Role, Signature, set_of};
 use std::alloc::Global;
 use std::cmp::Ordering;
 use std::marker::Model;
 
-/// The classes and object properties of a signature, and the fillers of a normal form, each list ascending, beside
+/// The classes and object properties of a signature, and the auxiliary roles of a normal form, each list ascending, beside
 /// guesses where an item stands.
 #[derive(Drop)]
 pub(crate) struct Nodes {
     classes: List<u32>,
     properties: List<u32>,
-    fillers: List<Base>,
+    auxiliaries: List<Base>,
     class_guesses: Guesses,
     property_guesses: Guesses,
-    filler_guesses: Guesses,
+    auxiliary_guesses: Guesses,
 }
 
 impl Model for Nodes {
@@ -32,10 +32,10 @@ impl Model for Nodes {
 
     ghost Value = { Predicates };
 
-    ghost view = { λ n. record { classes = n.classes; properties = n.properties; fillers = n.fillers } };
+    ghost view = { λ n. record { classes = n.classes; properties = n.properties; auxiliaries = n.auxiliaries } };
 
     ghost invariant = { λ n. AreInOrder
-        (record { classes = n.classes; properties = n.properties; fillers = n.fillers }) };
+        (record { classes = n.classes; properties = n.properties; auxiliaries = n.auxiliaries }) };
 }
 
 impl Nodes {
@@ -51,8 +51,13 @@ impl Nodes {
     {
         let classes = List::of(Vec::from_slice(alloc, signature.classes.as_slice())?);
         let properties = List::of(Vec::from_slice(alloc, signature.roles.as_slice())?);
-        let fillers = fillers_of(alloc, normal)?;
-        Nodes::guessed(alloc, set_of(classes), set_of(properties), set_of(fillers))
+        let auxiliaries = auxiliaries_of(alloc, normal)?;
+        Nodes::guessed(
+            alloc,
+            set_of(classes),
+            set_of(properties),
+            set_of(auxiliaries),
+        )
     }
 
     /// These predicates, with guesses where they stand. Fails only for want of memory.
@@ -60,22 +65,22 @@ impl Nodes {
         alloc: Global,
         classes: List<u32>,
         properties: List<u32>,
-        fillers: List<Base>,
+        auxiliaries: List<Base>,
     ) -> Result<Nodes, NoMemory>
-        requires { AreInOrder (record { classes = classes; properties = properties; fillers = fillers }) }
+        requires { AreInOrder (record { classes = classes; properties = properties; auxiliaries = auxiliaries }) }
         ensures { IfOk result (λ nodes.
-            nodes ≡ record { classes = classes; properties = properties; fillers = fillers }) }
+            nodes ≡ record { classes = classes; properties = properties; auxiliaries = auxiliaries }) }
     {
         let class_guesses = Guesses::of_names(alloc, classes.as_slice())?;
         let property_guesses = Guesses::of_names(alloc, properties.as_slice())?;
-        let filler_guesses = Guesses::of_bases(alloc, fillers.as_slice())?;
+        let auxiliary_guesses = Guesses::of_bases(alloc, auxiliaries.as_slice())?;
         Ok(Nodes {
             classes,
             properties,
-            fillers,
+            auxiliaries,
             class_guesses,
             property_guesses,
-            filler_guesses,
+            auxiliary_guesses,
         })
     }
 
@@ -104,7 +109,7 @@ impl Nodes {
     pub(crate) fn role_count(&self) -> u32
         ensures { result ≡ length (roles self.now) }
     {
-        2 * (self.properties.len() + self.fillers.len()) as u32
+        2 * (self.properties.len() + self.auxiliaries.len()) as u32
     }
 
     /// The roles, ascending. Fails only for want of memory.
@@ -113,7 +118,7 @@ impl Nodes {
     {
         let mut list = List::new(alloc);
         push_properties(&mut list, self.properties.as_slice())?;
-        push_bases(&mut list, self.fillers.as_slice())?;
+        push_bases(&mut list, self.auxiliaries.as_slice())?;
         Ok(list)
     }
 
@@ -128,7 +133,7 @@ impl Nodes {
         }
     }
 
-    /// The index of a role name among the properties and the fillers behind them.
+    /// The index of a role name among the properties and the auxiliary roles behind them.
     fn base(&self, base: Base) -> Option<u32>
         ensures index { MatchOption result (Contains (bases self.now) base → ⊥)
             (λ i. StandsAt (bases self.now) i base) }
@@ -139,9 +144,9 @@ impl Nodes {
                 let guess = self.property_guesses.of_name(name);
                 index_of(self.properties.as_slice(), &name, guess)
             }
-            Base::Filler { .. } => {
-                let guess = self.filler_guesses.of_base(base);
-                match index_of(self.fillers.as_slice(), &base, guess) {
+            Base::Auxiliary { .. } => {
+                let guess = self.auxiliary_guesses.of_base(base);
+                match index_of(self.auxiliaries.as_slice(), &base, guess) {
                     Some(index) => Some(self.properties.len() as u32 + index),
                     None => None,
                 }

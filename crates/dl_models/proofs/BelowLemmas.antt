@@ -6,7 +6,7 @@ use Rattle.std.proofs.lemmas.List.Elements.{All-contains}
 use Rattle.dl_terms.specs.Chain.{empty, step}
 use Rattle.dl_terms.specs.Below.{RoleStep, RoleBelow, ConceptStep, ConceptBelow}
 use Rattle.dl_terms.specs.NormalForm.{Row, role_in, concept_in, never, axiom_rows, rows_of, as_role_in, as_concept_in, as_negative, role_inclusions, concept_inclusions}
-use Rattle.dl_terms.specs.Fillers.{HasNoFiller}
+use Rattle.dl_terms.specs.Auxiliaries.{HasNoAuxiliary}
 use Rattle.dl_terms.specs.declared.role.Role.{Role}
 use Rattle.dl_terms.specs.declared.role.Basic.{Basic}
 use Rattle.dl_terms.specs.declared.role.Negative.{Negative}
@@ -32,13 +32,13 @@ module _ (i : Structure) where
   negative_part (never n) h = h
 
   -- a negative of an accepted axiom holds
-  pub negative_holds : (a : Axiom) → HasNoFiller a → Accepts i a → (row : Row) → Contains (axiom_rows a) row → (n : Negative) → as_negative row ≡ Some n
+  pub negative_holds : (a : Axiom) → HasNoAuxiliary a → Accepts i a → (row : Row) → Contains (axiom_rows a) row → (n : Negative) → as_negative row ≡ Some n
       → NegativeHolds i n
   negative_holds a named h row c n e =
       subst (λ o. MatchOption o (Unit {0}) (NegativeHolds i)) e
       (negative_part row (All-contains (RowHolds i) (axiom_rows a) row (rows_hold i a named h) c))
 
-  module _ (axioms : List Axiom) (named : All HasNoFiller axioms) (accepted : All (Accepts i) axioms) where
+  module _ (axioms : List Axiom) (named : All HasNoAuxiliary axioms) (accepted : All (Accepts i) axioms) where
     row_holds : (row : Row) → Contains (rows_of axioms) row → RowHolds i row
     row_holds row c =
         All-contains (RowHolds i) (rows_of axioms) row

@@ -4,15 +4,15 @@ use Rattle.std.specs.List.{All, Contains, flat_map, filter_map}
 use Rattle.std.specs.Option.{MatchOption}
 use Rattle.std.proofs.lemmas.List.Elements.{All-head, All-tail, All-weaker, All-contains, All-contains_itself, Contains-append_left, Contains-append_right}
 use Rattle.dl_terms.specs.Chain.{empty}
-use Rattle.dl_terms.specs.Roles.{named, inverse_of, filler_of}
+use Rattle.dl_terms.specs.Roles.{named, inverse_of, auxiliary_of}
 use Rattle.dl_terms.specs.Below.{RoleStep, RoleBelow, ConceptBelow}
 use Rattle.dl_terms.specs.Structure.{by_class, Element, individual, child, IsElement, HoldsAt, at_name, at_end, Joins, by_fact, by_fact_turned, to_child, from_child}
 use Rattle.dl_terms.specs.Answers.{AtomHolds as HoldsOfElements}
 use Rattle.dl_terms.specs.NormalForm.{Row, role_in, concept_in, never, ring, pairs, part_rows, axiom_rows, rows_of, as_role_in, as_concept_in, as_negative, axiom_negatives, nothing_negative, negatives}
 use Rattle.dl_terms.specs.Broken.{turned_atom, role_name, role_atom, basic_atom, IsMet, NothingIsBroken}
-use Rattle.dl_terms.specs.Fillers.{IsNamed, RoleHasNoFiller, BasicHasNoFiller, PartHasNoFiller, HasNoFiller}
+use Rattle.dl_terms.specs.Auxiliaries.{IsNamed, RoleHasNoAuxiliary, BasicHasNoAuxiliary, PartHasNoAuxiliary, HasNoAuxiliary}
 use Rattle.dl_terms.specs.declared.role.Base.{Base}
-use Rattle.dl_terms.specs.declared.role.Base.TheVariants.{Named, Filler}
+use Rattle.dl_terms.specs.declared.role.Base.TheVariants.{Named, Auxiliary}
 use Rattle.dl_terms.specs.declared.role.Role.{Role}
 use Rattle.dl_terms.specs.declared.role.Basic.{Basic}
 use Rattle.dl_terms.specs.declared.role.Basic.TheVariants.{Class, SomeOf}
@@ -60,12 +60,12 @@ module _ (axioms : List Axiom) (facts : List Fact) where
       → turned t (BaseLinks (canonical axioms facts) b) x y ↔ Joins axioms facts (record { base = b; inverse = t }) x y
   base-links (Named p) false h x y = (λ k. k, λ k. k)
   base-links (Named p) true h x y = (Joins-inverse (named p) y x, Joins-inverse (inverse_of (named p)) x y)
-  base-links (Filler p i c) t h x y = absurd h
+  base-links (Auxiliary p i c) t h x y = absurd h
 
-  pub links-joins : (r : Role) → RoleHasNoFiller r → (x y : Element) → RoleLinks (canonical axioms facts) r x y ↔ Joins axioms facts r x y
+  pub links-joins : (r : Role) → RoleHasNoAuxiliary r → (x y : Element) → RoleLinks (canonical axioms facts) r x y ↔ Joins axioms facts r x y
   links-joins r h x y = base-links r.base r.inverse h x y
 
-  pub in-holds : (b : Basic) → BasicHasNoFiller b → (x : Element) → IsElement axioms facts x
+  pub in-holds : (b : Basic) → BasicHasNoAuxiliary b → (x : Element) → IsElement axioms facts x
       → IsInBasic (canonical axioms facts) b x ↔ HoldsAt axioms facts b x
   in-holds (Class c) h x e = (λ k. k, λ k. k)
   in-holds (SomeOf r) h x e =
@@ -80,7 +80,7 @@ module _ (axioms : List Axiom) (facts : List Fact) where
       → Joins axioms facts (record { base = b; inverse = t }) (m u) (m v) → HoldsOfElements axioms facts m (turned_atom t (role_name b) (Var u) (Var v))
   role-atom (Named p) false h m u v k = k
   role-atom (Named p) true h m u v k = Joins-inverse (inverse_of (named p)) (m u) (m v) k
-  role-atom (Filler p i c) t h m u v k = absurd h
+  role-atom (Auxiliary p i c) t h m u v k = absurd h
 
   two-atoms : (m : ℕ → Element) (one two : Atom) → HoldsOfElements axioms facts m one → HoldsOfElements axioms facts m two
       → (a : Atom) → Contains (one ∷ two ∷ []) a → HoldsOfElements axioms facts m a
@@ -96,7 +96,7 @@ module _ (axioms : List Axiom) (facts : List Fact) where
 
   -- a neighbour that "some r" asks for; a class asks for none
   neighbour_of : (b : Basic) (x : Element) → IsElement axioms facts x → HoldsAt axioms facts b x → (y : Element) × IsElement axioms facts y
-      × (BasicHasNoFiller b → (m : ℕ → Element) (v : ℕ) → x ≡ m 0 → y ≡ m v → HoldsOfElements axioms facts m (basic_atom b v))
+      × (BasicHasNoAuxiliary b → (m : ℕ → Element) (v : ℕ) → x ≡ m 0 → y ≡ m v → HoldsOfElements axioms facts m (basic_atom b v))
   neighbour_of (Class c) x e h = (x, e, λ named m v at to. subst (HoldsAt axioms facts (Class c)) at h)
   neighbour_of (SomeOf r) x e h =
       let y = (HoldsAt-Joins axioms facts r x e).0 h in (
@@ -106,7 +106,7 @@ module _ (axioms : List Axiom) (facts : List Fact) where
             (subst (λ x. Joins axioms facts r x (m v)) at (subst (λ z. Joins axioms facts r x z) to y.2)),
       )
 
-  basics-met : (b c : Basic) → BasicHasNoFiller b → BasicHasNoFiller c → (x : Element) → IsElement axioms facts x → HoldsAt axioms facts b x
+  basics-met : (b c : Basic) → BasicHasNoAuxiliary b → BasicHasNoAuxiliary c → (x : Element) → IsElement axioms facts x → HoldsAt axioms facts b x
       → HoldsAt axioms facts c x → IsMet axioms facts (Basics b c)
   basics-met (Class d) c h k x e in_b in_c =
       let z = neighbour_of c x e in_c in
@@ -128,7 +128,7 @@ module _ (axioms : List Axiom) (facts : List Fact) where
         },
       )
 
-  roles-met : (r s : Role) → RoleHasNoFiller r → RoleHasNoFiller s → (x y : Element) → IsElement axioms facts x → IsElement axioms facts y
+  roles-met : (r s : Role) → RoleHasNoAuxiliary r → RoleHasNoAuxiliary s → (x y : Element) → IsElement axioms facts x → IsElement axioms facts y
       → Joins axioms facts r x y → Joins axioms facts s x y → IsMet axioms facts (Roles r s)
   roles-met r s h k x y ex ey j l =
       let m = values x y y in (
@@ -140,7 +140,7 @@ module _ (axioms : List Axiom) (facts : List Fact) where
         },
       )
 
-  loop-met : (r : Role) → RoleHasNoFiller r → (x : Element) → IsElement axioms facts x → Joins axioms facts r x x → IsMet axioms facts (NoLoop r)
+  loop-met : (r : Role) → RoleHasNoAuxiliary r → (x : Element) → IsElement axioms facts x → Joins axioms facts r x x → IsMet axioms facts (NoLoop r)
   loop-met r h x e j =
       let m = λ (v : ℕ). x in (
         m,
@@ -160,26 +160,26 @@ module _ (axioms : List Axiom) (facts : List Fact) where
   holds-up : {b c : Basic} → ConceptBelow axioms b c → (x : Element) → HoldsAt axioms facts b x → HoldsAt axioms facts c x
   holds-up d x h = HoldsAt-below axioms facts _ _ x d h
 
-  is_apart : (b c : Basic) → BasicHasNoFiller b → BasicHasNoFiller c → ¬ IsMet axioms facts (Basics b c) → IsApart (canonical axioms facts) b c
+  is_apart : (b c : Basic) → BasicHasNoAuxiliary b → BasicHasNoAuxiliary c → ¬ IsMet axioms facts (Basics b c) → IsApart (canonical axioms facts) b c
   is_apart b c h k unmet x e in_b in_c = unmet (basics-met b c h k x e ((in-holds b h x e).0 in_b) ((in-holds c k x e).0 in_c))
 
-  role_is_apart : (r s : Role) → RoleHasNoFiller r → RoleHasNoFiller s → ¬ IsMet axioms facts (Roles r s) → RoleIsApart (canonical axioms facts) r s
+  role_is_apart : (r s : Role) → RoleHasNoAuxiliary r → RoleHasNoAuxiliary s → ¬ IsMet axioms facts (Roles r s) → RoleIsApart (canonical axioms facts) r s
   role_is_apart r s h k unmet x y ex ey j l = unmet (roles-met r s h k x y ex ey ((links-joins r h x y).0 j) ((links-joins s k x y).0 l))
 
-  is_within : (b c : Basic) → BasicHasNoFiller b → BasicHasNoFiller c → ConceptBelow axioms b c → IsWithin (canonical axioms facts) b c
+  is_within : (b c : Basic) → BasicHasNoAuxiliary b → BasicHasNoAuxiliary c → ConceptBelow axioms b c → IsWithin (canonical axioms facts) b c
   is_within b c h k d x e in_b = (in-holds c k x e).1 (holds-up d x ((in-holds b h x e).0 in_b))
 
-  role_is_within : (r s : Role) → RoleHasNoFiller r → RoleHasNoFiller s → RoleBelow axioms r s → RoleIsWithin (canonical axioms facts) r s
+  role_is_within : (r s : Role) → RoleHasNoAuxiliary r → RoleHasNoAuxiliary s → RoleBelow axioms r s → RoleIsWithin (canonical axioms facts) r s
   role_is_within r s h k d x y ex ey j = (links-joins s k x y).1 (Joins-below r s x y d ((links-joins r h x y).0 j))
 
-  in_part : (b : Basic) → BasicHasNoFiller b → (p : Part) → PartHasNoFiller p → All Says (part_rows b p) → (x : Element) → IsElement axioms facts x
+  in_part : (b : Basic) → BasicHasNoAuxiliary b → (p : Part) → PartHasNoAuxiliary p → All Says (part_rows b p) → (x : Element) → IsElement axioms facts x
       → HoldsAt axioms facts b x → IsInPart (canonical axioms facts) x p
   in_part b h part.Thing k says x e is = tt
   in_part b h (part.Class c) k says x e is = holds-up (All-head Says (concept_in b (Class c)) [] says) x is
   in_part b h (part.Any r) k says x e is =
       (in-holds (SomeOf r) k x e).1 (holds-up (All-head Says (concept_in b (SomeOf r)) [] says) x is)
   in_part b h (part.Fill r c) k says x e is =
-      let u = filler_of r c in
+      let u = auxiliary_of r c in
       let rest = All-tail Says (concept_in b (SomeOf u)) (role_in u r ∷ concept_in (SomeOf (inverse_of u)) (Class c) ∷ []) says in
       let last = All-tail Says (role_in u r) (concept_in (SomeOf (inverse_of u)) (Class c) ∷ []) rest in
       let some_u = All-head Says (concept_in b (SomeOf u)) (role_in u r ∷ concept_in (SomeOf (inverse_of u)) (Class c) ∷ []) says in
@@ -193,17 +193,17 @@ module _ (axioms : List Axiom) (facts : List Fact) where
   in_part b h (part.Not d) k says x e is =
       λ in_d. All-head Says (never (Basics b d)) [] says (basics-met b d h k x e is ((in-holds d k x e).0 in_d))
 
-  in_parts : (b : Basic) → BasicHasNoFiller b → (ps : List Part) → All PartHasNoFiller ps → All Says (flat_map (part_rows b) ps)
+  in_parts : (b : Basic) → BasicHasNoAuxiliary b → (ps : List Part) → All PartHasNoAuxiliary ps → All Says (flat_map (part_rows b) ps)
       → (x : Element) → IsElement axioms facts x → IsInBasic (canonical axioms facts) b x → All (IsInPart (canonical axioms facts) x) ps
   in_parts b h ps k says x e is =
       let each = All-of_flat_map Says (part_rows b) ps says in
       λ j d within. in_part b h _ (k j d within) (each j d within) x e ((in-holds b h x e).0 is)
 
   -- an axiom whose rows hold is accepted
-  accepts_by_rows : (a : Axiom) → HasNoFiller a → All Says (axiom_rows a) → Accepts (canonical axioms facts) a
+  accepts_by_rows : (a : Axiom) → HasNoAuxiliary a → All Says (axiom_rows a) → Accepts (canonical axioms facts) a
   accepts_by_rows (SubClass b ps) h says = in_parts b h.0 ps h.1 says
   accepts_by_rows (EquivalentClasses bs) h says =
-      λ b c at to. is_within b c (All-contains BasicHasNoFiller bs b h at) (All-contains BasicHasNoFiller bs c h to)
+      λ b c at to. is_within b c (All-contains BasicHasNoAuxiliary bs b h at) (All-contains BasicHasNoAuxiliary bs c h to)
       (ring-leads (ConceptBelow axioms) (ConceptBelow-refl axioms) (λ x y z d f. ConceptBelow-trans axioms d f) bs
       (All-of_map Says (λ p. concept_in p.0 p.1) (ring bs) says) b c at to)
   accepts_by_rows (DisjointClasses bs) h says =
@@ -211,7 +211,7 @@ module _ (axioms : List Axiom) (facts : List Fact) where
       λ i j d lt within. is_apart _ _ (h i d (omega (arith, lt, within))) (h j d within) (each i j d lt within)
   accepts_by_rows (SubRole r s) h says = role_is_within r s h.0 h.1 (All-head Says (role_in r s) [] says)
   accepts_by_rows (EquivalentRoles rs) h says =
-      λ r s at to. role_is_within r s (All-contains RoleHasNoFiller rs r h at) (All-contains RoleHasNoFiller rs s h to)
+      λ r s at to. role_is_within r s (All-contains RoleHasNoAuxiliary rs r h at) (All-contains RoleHasNoAuxiliary rs s h to)
       (ring-leads (RoleBelow axioms) (RoleBelow-refl axioms) (λ x y z d f. RoleBelow-trans axioms d f) rs
       (All-of_map Says (λ p. role_in p.0 p.1) (ring rs) says) r s at to)
   accepts_by_rows (DisjointRoles rs) h says =
@@ -242,7 +242,7 @@ module _ (axioms : List Axiom) (facts : List Fact) where
 
   -- ---- where nothing is broken, all rows hold
 
-  module _ (nothing : Option ℕ) (no_filler : All HasNoFiller axioms) (whole : NothingIsBroken axioms facts nothing) where
+  module _ (nothing : Option ℕ) (no_auxiliary : All HasNoAuxiliary axioms) (whole : NothingIsBroken axioms facts nothing) where
     abbrev NotMet : Option Axiom × Negative → Type 0
     NotMet n = ¬ IsMet axioms facts n.1
 
@@ -262,7 +262,7 @@ module _ (axioms : List Axiom) (facts : List Fact) where
     pub all_accepted : All (Accepts (canonical axioms facts)) axioms
     all_accepted =
         All-weaker (Contains axioms) (Accepts (canonical axioms facts))
-        (λ a c. accepts_by_rows a (All-contains HasNoFiller axioms a no_filler c)
+        (λ a c. accepts_by_rows a (All-contains HasNoAuxiliary axioms a no_auxiliary c)
         (All-weaker (Contains (axiom_rows a)) Says (row_says a c) (axiom_rows a) (All-contains_itself (axiom_rows a)))) axioms (All-contains_itself axioms)
 
     fact_holds : (f : Fact) → Contains facts f → FactHolds (canonical axioms facts) f

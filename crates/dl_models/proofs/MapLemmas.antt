@@ -5,9 +5,9 @@ use Rattle.std.specs.List.{All, Contains, list_any}
 use Rattle.std.proofs.lemmas.List.Elements.{All-contains}
 use Rattle.dl_terms.specs.Below.{RoleBelow, ConceptBelow}
 use Rattle.dl_terms.specs.Structure.{HoldsAtName, by_class, by_source, by_target, Element, individual, child, Follows, IsWordAt, IsElement, HoldsAt, at_name, at_end, Joins, by_fact, by_fact_turned, to_child, from_child}
-use Rattle.dl_terms.specs.Fillers.{HasNoFiller}
+use Rattle.dl_terms.specs.Auxiliaries.{HasNoAuxiliary}
 use Rattle.dl_terms.specs.declared.role.Base.{Base}
-use Rattle.dl_terms.specs.declared.role.Base.TheVariants.{Named, Filler}
+use Rattle.dl_terms.specs.declared.role.Base.TheVariants.{Named, Auxiliary}
 use Rattle.dl_terms.specs.declared.role.Role.{Role}
 use Rattle.dl_terms.specs.declared.role.Basic.{Basic}
 use Rattle.dl_terms.specs.declared.role.Basic.TheVariants.{SomeOf}
@@ -40,7 +40,7 @@ module _ (model : Interp) where
 
   abbrev pub base_links : Base → ℕ → ℕ → Bool
   base_links (Named p) x y = is_link p x y
-  base_links (Filler p t c) x y = turned_test t (is_link p) x y && is_in c y
+  base_links (Auxiliary p t c) x y = turned_test t (is_link p) x y && is_in c y
 
   abbrev pub role_links : Role → ℕ → ℕ → Bool
   role_links r x y = turned_test r.inverse (base_links r.base) x y
@@ -61,7 +61,7 @@ module _ (model : Interp) where
 
   base-exact : (b : Base) (x y : ℕ) → (base_links b x y ≡ true) ↔ BaseLinks (finite model) b x y
   base-exact (Named p) x y = is_link-exact p x y
-  base-exact (Filler p t c) x y =
+  base-exact (Auxiliary p t c) x y =
       let link = turned-exact t (is_link p) (λ x y. Contains model.links (p, x, y)) (is_link-exact p) x y in (
         λ e.
             let h = both_true (turned_test t (is_link p) x y) (is_in c y) e in
@@ -111,17 +111,17 @@ module _ (model : Interp) where
   neighbour-below : (r : Role) (x : ℕ) → neighbour r x < model.size
   neighbour-below r x = found-below (role_links r x) model.size model.valid.some_element
 
-  module _ (axioms : List Axiom) (facts : List Fact) (nothing : Option ℕ) (no_filler : All HasNoFiller axioms)
+  module _ (axioms : List Axiom) (facts : List Fact) (nothing : Option ℕ) (no_auxiliary : All HasNoAuxiliary axioms)
       (is : IsModel (finite model) axioms facts nothing) where
     fact_holds : (f : Fact) → Contains facts f → FactHolds (finite model) f
     fact_holds f c = All-contains (FactHolds (finite model)) facts f is.facts_hold c
 
     up : {b c : Basic} → ConceptBelow axioms b c → (x : ℕ) → x < model.size → IsInBasic (finite model) b x → IsInBasic (finite model) c x
-    up d = concept_below (finite model) axioms no_filler is.axioms_accepted d
+    up d = concept_below (finite model) axioms no_auxiliary is.axioms_accepted d
 
     over : {r s : Role} → RoleBelow axioms r s → (x y : ℕ) → x < model.size → y < model.size → RoleLinks (finite model) r x y
         → RoleLinks (finite model) s x y
-    over d = role_below (finite model) axioms no_filler is.axioms_accepted d
+    over d = role_below (finite model) axioms no_auxiliary is.axioms_accepted d
 
     class_at : (c a : ℕ) → Contains facts (fact.Is c a) → Contains model.classes (c, named_by a)
     class_at c a h =

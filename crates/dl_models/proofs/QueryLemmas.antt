@@ -3,15 +3,15 @@ use Rattle.std.proofs.Common.{◌≡◌, ℕ, ◌+◌, ◌<◌, ◌⊎◌, Bool,
 use Rattle.std.specs.List.{All, Contains, flat_map, filter_map}
 use Rattle.std.specs.Option.{MatchOption}
 use Rattle.std.proofs.lemmas.List.Elements.{All-nil, All-cons, All-head, All-tail, All-append, All-map, All-weaker, All-contains, All-contains_itself, Contains-append_left, Contains-append_right}
-use Rattle.dl_terms.specs.Roles.{named, inverse_of, filler_of}
+use Rattle.dl_terms.specs.Roles.{named, inverse_of, auxiliary_of}
 use Rattle.dl_terms.specs.Structure.{Element, individual, IsElement}
 use Rattle.dl_terms.specs.Answers.{value_of, AtomHolds as HoldsOfElements, IsCertain}
 use Rattle.dl_terms.specs.Queries.{term_variables, atom_variables, body_variables, IsWellFormed}
 use Rattle.dl_terms.specs.NormalForm.{Row, role_in, concept_in, never, axiom_rows, as_negative, axiom_negatives, nothing_negative, negatives}
 use Rattle.dl_terms.specs.Broken.{turned_atom, role_name, role_atom, basic_atom, neighbours, IsMet, NothingIsBroken, IsFirstBroken}
-use Rattle.dl_terms.specs.Fillers.{IsNamed, BasicHasNoFiller, HasNoFiller, NegativeHasNoFiller, RowHasNoFiller, IsFilled}
+use Rattle.dl_terms.specs.Auxiliaries.{IsNamed, BasicHasNoAuxiliary, HasNoAuxiliary, NegativeHasNoAuxiliary, RowHasNoAuxiliary, IsFilled}
 use Rattle.dl_terms.specs.declared.role.Base.{Base}
-use Rattle.dl_terms.specs.declared.role.Base.TheVariants.{Named, Filler}
+use Rattle.dl_terms.specs.declared.role.Base.TheVariants.{Named, Auxiliary}
 use Rattle.dl_terms.specs.declared.role.Basic.{Basic}
 use Rattle.dl_terms.specs.declared.role.Basic.TheVariants.{Class, SomeOf}
 use Rattle.dl_terms.specs.declared.role.Negative.{Negative}
@@ -24,7 +24,7 @@ use Rattle.dl_terms.specs.declared.query.Atom.{Atom}
 use Rattle.dl_terms.specs.declared.query.Atom.TheVariants as atom
 use Rattle.dl_terms.specs.declared.query.Query.{Query}
 use Rattle.dl_terms.proofs.MemberLemmas.{Contains-first, Contains-later, Contains-middle}
-use Rattle.dl_terms.proofs.FillerLemmas.{row_allowed}
+use Rattle.dl_terms.proofs.AuxiliaryLemmas.{row_allowed}
 use Rattle.dl_models.specs.Meaning.{turned, BaseLinks, IsInBasic, StandsFor, AtomHolds, GivesHead, HasElement, term_individuals, atom_individuals, individuals_of, QueryHolds, Accepts, IsModel}
 use Rattle.dl_models.specs.Structures.{finite}
 use Rattle.dl_models.specs.declared.interp.Interp.{Interp}
@@ -36,14 +36,14 @@ use Rattle.dl_models.proofs.MapLemmas.{image, named_by-is, image-below, image-in
 never-filled : (n : Negative) → IsFilled (never n) → ⊥
 never-filled n f =
     let No : Row → Type 0 = λ row. MatchOption (as_negative row) (Unit {0}) (λ _. ⊥) in
-    let u = filler_of f.role f.class in
+    let u = auxiliary_of f.role f.class in
     let one = concept_in f.basic (SomeOf u) in
     let two = role_in u f.role in
     let three = concept_in (SomeOf (inverse_of u)) (Class f.class) in
     All-contains No (one ∷ two ∷ three ∷ []) (never n)
     (All-cons No one (two ∷ three ∷ []) tt (All-cons No two (three ∷ []) tt (All-cons No three [] tt (All-nil No)))) f.is_row
 
-module _ (model : Interp) (axioms : List Axiom) (facts : List Fact) (nothing : Option ℕ) (no_filler : All HasNoFiller axioms)
+module _ (model : Interp) (axioms : List Axiom) (facts : List Fact) (nothing : Option ℕ) (no_auxiliary : All HasNoAuxiliary axioms)
     (is : IsModel (finite model) axioms facts nothing) where
   module _ (m : ℕ → Element) where
     abbrev images : ℕ → ℕ
@@ -72,7 +72,7 @@ module _ (model : Interp) (axioms : List Axiom) (facts : List Fact) (nothing : O
     atom-holds (atom.Is c t) each names h = (
       image model (value_of m t),
       term-stands t names,
-      image-in model axioms facts nothing no_filler is (Class c) (value_of m t) (term-element t each) h,
+      image-in model axioms facts nothing no_auxiliary is (Class c) (value_of m t) (term-element t each) h,
     )
     atom-holds (atom.Link p t u) each names h =
         let Here : ℕ → Type 0 = λ v. IsElement axioms facts (m v) in
@@ -81,7 +81,7 @@ module _ (model : Interp) (axioms : List Axiom) (facts : List Fact) (nothing : O
           image model (value_of m u),
           term-stands t (left Known (term_individuals t) (term_individuals u) names),
           term-stands u (right Known (term_individuals t) (term_individuals u) names),
-          image-links model axioms facts nothing no_filler is (named p) (value_of m t) (value_of m u)
+          image-links model axioms facts nothing no_auxiliary is (named p) (value_of m t) (value_of m u)
               (term-element t (left Here (term_variables t) (term_variables u) each)) (term-element u (right Here (term_variables t) (term_variables u) each)) h,
         )
 
@@ -118,16 +118,16 @@ module _ (model : Interp) (axioms : List Axiom) (facts : List Fact) (nothing : O
 
   role-met : (m : ℕ → Element) (b : Base) (t : Bool) → IsNamed b → (u v : ℕ) → IsElement axioms facts (m u) → IsElement axioms facts (m v)
       → HoldsOfElements axioms facts m (turned_atom t (role_name b) (Var u) (Var v)) → turned t (BaseLinks (finite model) b) (image model (m u)) (image model (m v))
-  role-met m (Named p) false h u v eu ev k = image-links model axioms facts nothing no_filler is (named p) (m u) (m v) eu ev k
-  role-met m (Named p) true h u v eu ev k = image-links model axioms facts nothing no_filler is (named p) (m v) (m u) ev eu k
-  role-met m (Filler p i c) t h u v eu ev k = absurd h
+  role-met m (Named p) false h u v eu ev k = image-links model axioms facts nothing no_auxiliary is (named p) (m u) (m v) eu ev k
+  role-met m (Named p) true h u v eu ev k = image-links model axioms facts nothing no_auxiliary is (named p) (m v) (m u) ev eu k
+  role-met m (Auxiliary p i c) t h u v eu ev k = absurd h
 
-  basic-met : (m : ℕ → Element) (b : Basic) (v : ℕ) → BasicHasNoFiller b → IsElement axioms facts (m 0)
+  basic-met : (m : ℕ → Element) (b : Basic) (v : ℕ) → BasicHasNoAuxiliary b → IsElement axioms facts (m 0)
       → (neighbours b ≡ 1 → IsElement axioms facts (m v)) → HoldsOfElements axioms facts m (basic_atom b v) → IsInBasic (finite model) b (image model (m 0))
-  basic-met m (Class c) v h e n k = image-in model axioms facts nothing no_filler is (Class c) (m 0) e k
+  basic-met m (Class c) v h e n k = image-in model axioms facts nothing no_auxiliary is (Class c) (m 0) e k
   basic-met m (SomeOf r) v h e n k = (image model (m v), image-below model (m v), role-met m r.base r.inverse h 0 v e (n refl) k)
 
-  pub not-met : (n : Negative) → NegativeHasNoFiller n → NegativeHolds (finite model) n → ¬ IsMet axioms facts n
+  pub not-met : (n : Negative) → NegativeHasNoAuxiliary n → NegativeHolds (finite model) n → ¬ IsMet axioms facts n
   not-met (Basics b c) h holds (m, is_match) =
       let e : IsElement axioms facts (m 0) = is_match.elements 0 (omega arith) in
       holds (image model (m 0)) (image-below model (m 0))
@@ -148,17 +148,17 @@ module _ (model : Interp) (axioms : List Axiom) (facts : List Fact) (nothing : O
       holds (image model (m 0)) (image-below model (m 0))
       (role-met m r.base r.inverse h 0 0 e e (is_match.atoms (role_atom r (Var 0) (Var 0)) (Contains-first (role_atom r (Var 0) (Var 0)) [])))
 
-  row-not-met : (row : Row) → RowHasNoFiller row ⊎ IsFilled row → RowHolds (finite model) row
+  row-not-met : (row : Row) → RowHasNoAuxiliary row ⊎ IsFilled row → RowHolds (finite model) row
       → MatchOption (as_negative row) (Unit {0}) (λ n. ¬ IsMet axioms facts n)
   row-not-met (role_in r s) allowed h = tt
   row-not-met (concept_in b c) allowed h = tt
   row-not-met (never n) allowed h =
-      ⊎_elim (λ (k : NegativeHasNoFiller n). not-met n k h) (λ (k : IsFilled (never n)). absurd (never-filled n k)) allowed
+      ⊎_elim (λ (k : NegativeHasNoAuxiliary n). not-met n k h) (λ (k : IsFilled (never n)). absurd (never-filled n k)) allowed
 
   abbrev NotMet : Option Axiom × Negative → Type 0
   NotMet n = ¬ IsMet axioms facts n.1
 
-  axiom-not-met : (a : Axiom) → HasNoFiller a → Accepts (finite model) a → All NotMet (axiom_negatives a)
+  axiom-not-met : (a : Axiom) → HasNoAuxiliary a → Accepts (finite model) a → All NotMet (axiom_negatives a)
   axiom-not-met a h accepted =
       All-map NotMet (λ n. (Some a, n)) (filter_map as_negative (axiom_rows a))
       (All-filter_map (λ n. ¬ IsMet axioms facts n) as_negative (axiom_rows a)
@@ -173,7 +173,7 @@ module _ (model : Interp) (axioms : List Axiom) (facts : List Fact) (nothing : O
   pub nothing-broken : NothingIsBroken axioms facts nothing
   nothing-broken =
       All-append NotMet (flat_map axiom_negatives axioms) (nothing_negative nothing)
-      (All-flat_map NotMet axiom_negatives axioms (λ k d within. axiom-not-met _ (no_filler k d within) (is.axioms_accepted k d within)))
+      (All-flat_map NotMet axiom_negatives axioms (λ k d within. axiom-not-met _ (no_auxiliary k d within) (is.axioms_accepted k d within)))
       (nothing-not-met nothing is.nothing_in_it)
 
   -- so no axiom is the first broken one

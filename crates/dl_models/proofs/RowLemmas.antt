@@ -1,13 +1,13 @@
--- What an accepted axiom says of the rows of its normal form, in any structure in which a filler links what its role
+-- What an accepted axiom says of the rows of its normal form, in any structure in which an auxiliary role links what its role
 -- links to members of its class.
 use Rattle.std.proofs.Common.{ℕ, ◌↔◌, Bool, true, false, not, List, [], ◌∷◌}
 use Rattle.std.specs.List.{All, Contains, flat_map}
 use Rattle.std.proofs.lemmas.List.Elements.{All-nil, All-cons, All-map, All-weaker}
-use Rattle.dl_terms.specs.Roles.{inverse_of, filler_base, filler_of}
+use Rattle.dl_terms.specs.Roles.{inverse_of, auxiliary_base, auxiliary_of}
 use Rattle.dl_terms.specs.NormalForm.{Row, role_in, concept_in, never, ring, pairs, part_rows, axiom_rows}
-use Rattle.dl_terms.specs.Fillers.{IsNamed, PartHasNoFiller, HasNoFiller}
+use Rattle.dl_terms.specs.Auxiliaries.{IsNamed, PartHasNoAuxiliary, HasNoAuxiliary}
 use Rattle.dl_terms.specs.declared.role.Base.{Base}
-use Rattle.dl_terms.specs.declared.role.Base.TheVariants.{Named, Filler}
+use Rattle.dl_terms.specs.declared.role.Base.TheVariants.{Named, Auxiliary}
 use Rattle.dl_terms.specs.declared.role.Role.{Role}
 use Rattle.dl_terms.specs.declared.role.Basic.{Basic}
 use Rattle.dl_terms.specs.declared.role.Basic.TheVariants as basic
@@ -20,7 +20,7 @@ use Rattle.dl_terms.specs.declared.axiom.Axiom.TheVariants.{SubClass, Equivalent
 use Rattle.dl_models.specs.Meaning.{Structure, turned, BaseLinks, RoleLinks, IsInBasic, IsInPart, IsWithin, IsApart, RoleIsWithin, RoleIsApart, Accepts}
 use Rattle.dl_models.proofs.ListLemmas.{All-flat_map, All-pairs, Contains-ring}
 
--- ---- inverses and fillers
+-- ---- inverses and auxiliary roles
 
 turned-not : {A : Type 0} (t : Bool) (R : A → A → Type 0) (x y : A) → turned (not t) R x y ↔ turned t R y x
 turned-not true R x y = (λ h. h, λ h. h)
@@ -31,15 +31,15 @@ module _ (i : Structure) where
   pub inverse-links : (r : Role) (x y : i.Value) → RoleLinks i (inverse_of r) x y ↔ RoleLinks i r y x
   inverse-links r x y = turned-not r.inverse (BaseLinks i r.base) x y
 
-  base_of_filler : (b : Base) (t : Bool) (c : ℕ) → IsNamed b → (x y : i.Value)
-      → BaseLinks i (filler_base b t c) x y ↔ (turned t (BaseLinks i b) x y × i.IsIn c y)
-  base_of_filler (Named p) true c h x y = (λ k. k, λ k. k)
-  base_of_filler (Named p) false c h x y = (λ k. k, λ k. k)
-  base_of_filler (Filler p t' d) t c h x y = absurd h
+  base_of_auxiliary : (b : Base) (t : Bool) (c : ℕ) → IsNamed b → (x y : i.Value)
+      → BaseLinks i (auxiliary_base b t c) x y ↔ (turned t (BaseLinks i b) x y × i.IsIn c y)
+  base_of_auxiliary (Named p) true c h x y = (λ k. k, λ k. k)
+  base_of_auxiliary (Named p) false c h x y = (λ k. k, λ k. k)
+  base_of_auxiliary (Auxiliary p t' d) t c h x y = absurd h
 
-  -- a filler links what its role links to members of its class
-  pub filler-links : (r : Role) (c : ℕ) → IsNamed r.base → (x y : i.Value) → RoleLinks i (filler_of r c) x y ↔ (RoleLinks i r x y × i.IsIn c y)
-  filler-links r c h x y = base_of_filler r.base r.inverse c h x y
+  -- an auxiliary role links what its role links to members of its class
+  pub auxiliary-links : (r : Role) (c : ℕ) → IsNamed r.base → (x y : i.Value) → RoleLinks i (auxiliary_of r c) x y ↔ (RoleLinks i r x y × i.IsIn c y)
+  auxiliary-links r c h x y = base_of_auxiliary r.base r.inverse c h x y
 
   -- ---- rows
 
@@ -65,24 +65,24 @@ module _ (i : Structure) where
   abbrev IsWithinPart : Basic → Part → Type 0
   IsWithinPart b p = (x : i.Value) → i.IsElement x → IsInBasic i b x → IsInPart i x p
 
-  part_holds : (b : Basic) (p : Part) → PartHasNoFiller p → IsWithinPart b p → All RowHolds (part_rows b p)
+  part_holds : (b : Basic) (p : Part) → PartHasNoAuxiliary p → IsWithinPart b p → All RowHolds (part_rows b p)
   part_holds b part.Thing named h = All-nil RowHolds
   part_holds b (part.Class c) named h = one_row (concept_in b (basic.Class c)) h
   part_holds b (part.Any r) named h = one_row (concept_in b (basic.SomeOf r)) h
   part_holds b (part.Fill r c) named h =
-      let u = filler_of r c in
+      let u = auxiliary_of r c in
       three_rows (concept_in b (basic.SomeOf u)) (role_in u r) (concept_in (basic.SomeOf (inverse_of u)) (basic.Class c))
-      (λ x e k. let y = h x e k in (y.0, y.1, (filler-links r c named x y.0).1 (y.2, y.3))) (λ x y e f k. ((filler-links r c named x y).0 k).0)
-      (λ y f k. ((filler-links r c named k.0 y).0 k.2).1)
+      (λ x e k. let y = h x e k in (y.0, y.1, (auxiliary-links r c named x y.0).1 (y.2, y.3))) (λ x y e f k. ((auxiliary-links r c named x y).0 k).0)
+      (λ y f k. ((auxiliary-links r c named k.0 y).0 k.2).1)
   part_holds b (part.Not d) named h = one_row (never (Basics b d)) h
 
-  parts_hold : (b : Basic) (ps : List Part) → All PartHasNoFiller ps → ((x : i.Value) → i.IsElement x → IsInBasic i b x → All (IsInPart i x) ps)
+  parts_hold : (b : Basic) (ps : List Part) → All PartHasNoAuxiliary ps → ((x : i.Value) → i.IsElement x → IsInBasic i b x → All (IsInPart i x) ps)
       → All RowHolds (flat_map (part_rows b) ps)
   parts_hold b ps named h =
       All-flat_map RowHolds (part_rows b) ps (λ k d within. part_holds b _ (named k d within) (λ x e is. h x e is k d within))
 
   -- the rows of an accepted axiom hold
-  pub rows_hold : (a : Axiom) → HasNoFiller a → Accepts i a → All RowHolds (axiom_rows a)
+  pub rows_hold : (a : Axiom) → HasNoAuxiliary a → Accepts i a → All RowHolds (axiom_rows a)
   rows_hold (SubClass b ps) named h = parts_hold b ps named.1 h
   rows_hold (EquivalentClasses bs) named h =
       All-map RowHolds (λ p. concept_in p.0 p.1) (ring bs)

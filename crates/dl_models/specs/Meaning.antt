@@ -5,7 +5,7 @@ use Rattle.std.specs.List.{All, AllPairs, Contains, flat_map}
 use Rattle.std.specs.declared.option.Option.{Option}
 use Rattle.std.specs.Option.{MatchOption}
 use Rattle.dl_terms.specs.declared.role.Base.{Base}
-use Rattle.dl_terms.specs.declared.role.Base.TheVariants.{Named, Filler}
+use Rattle.dl_terms.specs.declared.role.Base.TheVariants.{Named, Auxiliary}
 use Rattle.dl_terms.specs.declared.role.Role.{Role}
 use Rattle.dl_terms.specs.declared.role.Basic.{Basic}
 use Rattle.dl_terms.specs.declared.role.Basic.TheVariants as basic
@@ -35,10 +35,10 @@ abbrev pub turned : {A : Type 0} → Bool → (A → A → Type 0) → A → A �
 turned false R x y = R x y
 turned true R x y = R y x
 
--- a filler, which no axiom has, links what its role links to members of its class
+-- an auxiliary role, which no axiom has, links what its role links to members of its class
 abbrev pub BaseLinks : (i : Structure) → Base → i.Value → i.Value → Type 0
 BaseLinks i (Named p) x y = i.Links p x y
-BaseLinks i (Filler p inverse c) x y = turned inverse (i.Links p) x y × i.IsIn c y
+BaseLinks i (Auxiliary p inverse c) x y = turned inverse (i.Links p) x y × i.IsIn c y
 
 abbrev pub RoleLinks : (i : Structure) → Role → i.Value → i.Value → Type 0
 RoleLinks i r x y = turned r.inverse (BaseLinks i r.base) x y

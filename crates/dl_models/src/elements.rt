@@ -29,12 +29,12 @@ fn base_links(model: &Interp, base: Base, x: u32, y: u32) -> bool
 {
     match base {
         Base::Named(name) => is_link(model, name, x, y),
-        Base::Filler {
+        Base::Auxiliary {
             role,
             inverse: false,
             class,
         } => is_link(model, role, x, y) && is_in(model, class, y),
-        Base::Filler {
+        Base::Auxiliary {
             role,
             inverse: true,
             class,

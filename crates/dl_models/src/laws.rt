@@ -1,7 +1,7 @@
 //! Laws that tie the canonical structure to all finite models, by the meaning of axioms, facts and queries in each:
 //! why its definitions need not be trusted as they stand.
 ghost use Rattle.std.specs.Prelude.{◌↔◌, All};
-ghost use Rattle.dl_terms.specs.Fillers.{HasNoFiller};
+ghost use Rattle.dl_terms.specs.Auxiliaries.{HasNoAuxiliary};
 ghost use Rattle.dl_terms.specs.Structure.{Element, IsElement, HoldsAt, Joins};
 ghost use Rattle.dl_terms.specs.Answers.{IsCertain};
 ghost use Rattle.dl_terms.specs.Queries.{IsWellFormed};
@@ -26,7 +26,7 @@ pub fn answers_hold(
     tuple: &[u32],
     model: &Interp,
 )
-    requires no_filler { All HasNoFiller axioms.now }
+    requires no_auxiliary { All HasNoAuxiliary axioms.now }
     requires well_formed { IsWellFormed query.now }
     requires query_named { All (HasElement (finite model.now)) (individuals_of query.now) }
     requires tuple_named { All (HasElement (finite model.now)) tuple.now }
@@ -37,7 +37,7 @@ pub fn answers_hold(
 
 /// Where something is broken, `model` is no model of the axioms and facts.
 pub fn broken_excludes(axioms: &[Axiom], facts: &[Fact], nothing: Option<u32>, model: &Interp)
-    requires no_filler { All HasNoFiller axioms.now }
+    requires no_auxiliary { All HasNoAuxiliary axioms.now }
     requires broken { (broken : Option AxiomValue) × IsFirstBroken axioms.now facts.now nothing broken }
     ensures { ¬ IsModel (finite model.now) axioms.now facts.now nothing }
 {}
@@ -46,7 +46,7 @@ pub fn broken_excludes(axioms: &[Axiom], facts: &[Fact], nothing: Option<u32>, m
 /// broken, the canonical structure is a model of the axioms and facts: it accepts every axiom and every fact, and
 /// nothing is in `owl:Nothing`.
 pub fn canonical_accepts(axioms: &[Axiom], facts: &[Fact], nothing: Option<u32>)
-    requires { All HasNoFiller axioms.now }
+    requires { All HasNoAuxiliary axioms.now }
     ensures some_of { (r : Role) (x : Element) → IsElement axioms.now facts.now x
         → HoldsAt axioms.now facts.now (SomeOf r) x
         ↔ ((y : Element) × IsElement axioms.now facts.now y × Joins axioms.now facts.now r x y) }

@@ -1,4 +1,4 @@
--- The pairs of the parts "some role in class": how many different ones there are, and the fillers in the rows.
+-- The pairs of the parts "some role in class": how many different ones there are, and the auxiliary roles in the rows.
 use Rattle.std.proofs.Common.{◌≡◌, ◌≢◌, ℕ, ◌+◌, ◌<◌, List, [], ◌∷◌, ◌++◌, map, zip, flat_map, filter_map, length, take, get_or, Option, Some, None, option_to_list, All, AllPairs, Contains, refl, sym, ap, subst, ◌∙◌, inl, inr, ⊎_elim, true≢false, arith, append_assoc}
 use Rattle.std.specs.declared.cmp.Ordering.{Ordering}
 use Rattle.std.specs.declared.cmp.Ordering.TheVariants.{Less, Equal}
@@ -15,9 +15,9 @@ use Rattle.dl_terms.specs.Order.{role_cmp}
 use Rattle.dl_terms.specs.contracts.role.RoleOrd.TheImpl as role_impl
 use Rattle.dl_terms.proofs.DerivedLemmas as derived
 use Rattle.dl_terms.proofs.OrderLemmas.{pair_cmp, numbers_linear, roles_linear, pairs_linear}
-use Rattle.dl_terms.specs.Roles.{inverse_of, filler_of}
+use Rattle.dl_terms.specs.Roles.{inverse_of, auxiliary_of}
 use Rattle.dl_terms.specs.NormalForm.{Row, role_in, concept_in, never, ring, pairs, part_rows, axiom_rows, rows_of}
-use Rattle.dl_terms.specs.Fillers.{RoleHasNoFiller, BasicHasNoFiller, PartHasNoFiller, HasNoFiller}
+use Rattle.dl_terms.specs.Auxiliaries.{RoleHasNoAuxiliary, BasicHasNoAuxiliary, PartHasNoAuxiliary, HasNoAuxiliary}
 use Rattle.dl_terms.specs.declared.role.Base.{Base}
 use Rattle.dl_terms.specs.declared.role.Role.{Role}
 use Rattle.dl_terms.specs.declared.role.Basic.{Basic}
@@ -83,7 +83,7 @@ pub HasDistinct-pairs : (set items : List (Role × ℕ)) → IsSetOf (λ x y. or
 HasDistinct-pairs set items is =
     HasDistinct-set (pairs_linear roles_linear numbers_linear).total set items (subst (λ R. IsSetOf R set items) pair_order is)
 
--- ---- which fillers are in the rows
+-- ---- which auxiliary roles are in the rows
 
 abbrev Both : {A : Type 0} → (A → Type 0) → A × A → Type 0
 Both Q p = Q p.0 × Q p.1
@@ -138,8 +138,8 @@ filled-listed (q ∷ qs) r c h =
     add (part.Fill s d) k = Contains-later (s, d) (r, c) (filter_map filled qs) k
     add (part.Not b) k = k
 
-abbrev filler_name : Role × ℕ → Base
-filler_name p = (filler_of p.0 p.1).base
+abbrev auxiliary_name : Role × ℕ → Base
+auxiliary_name p = (auxiliary_of p.0 p.1).base
 
 module _ (axioms : List Axiom) where
   abbrev Is : Base → Type 0
@@ -151,7 +151,7 @@ module _ (axioms : List Axiom) where
   two : (a b : Base) → Is a → Is b → All Is (a ∷ b ∷ [])
   two a b h k = All-cons Is a (b ∷ []) h (one b k)
 
-  of_basic : (b : Basic) → BasicHasNoFiller b → All Is (basic_bases b)
+  of_basic : (b : Basic) → BasicHasNoAuxiliary b → All Is (basic_bases b)
   of_basic (basic.Class c) h = All-nil Is
   of_basic (basic.SomeOf r) h = one r.base (inl h)
 
@@ -164,14 +164,14 @@ module _ (axioms : List Axiom) where
   one_row : (row : Row) → RowIs row → All RowIs (row ∷ [])
   one_row row h = All-cons RowIs row [] h (All-nil RowIs)
 
-  of_part : (b : Basic) → BasicHasNoFiller b → (q : Part) → PartHasNoFiller q
+  of_part : (b : Basic) → BasicHasNoAuxiliary b → (q : Part) → PartHasNoAuxiliary q
       → ((r : Role) (c : ℕ) → q ≡ part.Fill r c → Contains (filled_pairs axioms) (r, c)) → All RowIs (part_rows b q)
   of_part b h part.Thing k listed = All-nil RowIs
   of_part b h (part.Class c) k listed = one_row (concept_in b (basic.Class c)) (of_concepts b (basic.Class c) (of_basic b h) (All-nil Is))
   of_part b h (part.Any r) k listed = one_row (concept_in b (basic.SomeOf r)) (of_concepts b (basic.SomeOf r) (of_basic b h) (one r.base (inl k)))
   of_part b h (part.Fill r c) k listed =
-      let u = filler_of r c in
-      let is : Is u.base = inr (Contains-map_of filler_name (filled_pairs axioms) (r, c) (listed r c refl)) in
+      let u = auxiliary_of r c in
+      let is : Is u.base = inr (Contains-map_of auxiliary_name (filled_pairs axioms) (r, c) (listed r c refl)) in
       All-cons RowIs (concept_in b (basic.SomeOf u)) (role_in u r ∷ concept_in (basic.SomeOf (inverse_of u)) (basic.Class c) ∷ [])
       (of_concepts b (basic.SomeOf u) (of_basic b h) (one u.base is))
       (All-cons RowIs (role_in u r) (concept_in (basic.SomeOf (inverse_of u)) (basic.Class c) ∷ []) (two u.base r.base is (inl k))
@@ -180,38 +180,38 @@ module _ (axioms : List Axiom) where
   of_part b h (part.Not d) k listed = one_row (never (Basics b d)) (All-append Is (basic_bases b) (basic_bases d) (of_basic b h) (of_basic d k))
 
   -- the rows of parts that are in the axioms
-  of_parts : (b : Basic) → BasicHasNoFiller b → (qs : List Part) → All PartHasNoFiller qs
+  of_parts : (b : Basic) → BasicHasNoAuxiliary b → (qs : List Part) → All PartHasNoAuxiliary qs
       → ((r : Role) (c : ℕ) → Contains qs (part.Fill r c) → Contains (filled_pairs axioms) (r, c)) → All RowIs (flat_map (part_rows b) qs)
   of_parts b h [] k listed = All-nil RowIs
   of_parts b h (q ∷ qs) k listed =
       All-append RowIs (part_rows b q) (flat_map (part_rows b) qs)
-      (of_part b h q (All-head PartHasNoFiller q qs k) (λ r c same. listed r c (subst (Contains (q ∷ qs)) same (Contains-first q qs))))
-      (of_parts b h qs (All-tail PartHasNoFiller q qs k) (λ r c m. listed r c (Contains-later q (part.Fill r c) qs m)))
+      (of_part b h q (All-head PartHasNoAuxiliary q qs k) (λ r c same. listed r c (subst (Contains (q ∷ qs)) same (Contains-first q qs))))
+      (of_parts b h qs (All-tail PartHasNoAuxiliary q qs k) (λ r c m. listed r c (Contains-later q (part.Fill r c) qs m)))
 
-  of_roles : (ps : List (Role × Role)) → All (Both RoleHasNoFiller) ps → All RowIs (map (λ p. role_in p.0 p.1) ps)
+  of_roles : (ps : List (Role × Role)) → All (Both RoleHasNoAuxiliary) ps → All RowIs (map (λ p. role_in p.0 p.1) ps)
   of_roles ps all =
       All-map RowIs (λ p. role_in p.0 p.1) ps
-      (All-weaker (Both RoleHasNoFiller) (λ p. RowIs (role_in p.0 p.1)) (λ p h. two p.0.base p.1.base (inl h.0) (inl h.1)) ps all)
+      (All-weaker (Both RoleHasNoAuxiliary) (λ p. RowIs (role_in p.0 p.1)) (λ p h. two p.0.base p.1.base (inl h.0) (inl h.1)) ps all)
 
   listed : (a : Axiom) → Contains axioms a → (r : Role) (c : ℕ) → Contains (parts_of a) (part.Fill r c) → Contains (filled_pairs axioms) (r, c)
   listed a m r c k = filled-listed (flat_map parts_of axioms) r c (Contains-flat_map_of parts_of axioms a (part.Fill r c) m k)
 
-  of_axiom : (a : Axiom) → HasNoFiller a → Contains axioms a → All RowIs (axiom_rows a)
+  of_axiom : (a : Axiom) → HasNoAuxiliary a → Contains axioms a → All RowIs (axiom_rows a)
   of_axiom (SubClass b ps) h m = of_parts b h.0 ps h.1 (λ r c k. listed (SubClass b ps) m r c k)
   of_axiom (EquivalentClasses bs) h m =
       All-map RowIs (λ p. concept_in p.0 p.1) (ring bs)
-      (All-weaker (Both BasicHasNoFiller) (λ p. RowIs (concept_in p.0 p.1))
-      (λ p k. of_concepts p.0 p.1 (of_basic p.0 k.0) (of_basic p.1 k.1)) (ring bs) (All-ring BasicHasNoFiller bs h))
+      (All-weaker (Both BasicHasNoAuxiliary) (λ p. RowIs (concept_in p.0 p.1))
+      (λ p k. of_concepts p.0 p.1 (of_basic p.0 k.0) (of_basic p.1 k.1)) (ring bs) (All-ring BasicHasNoAuxiliary bs h))
   of_axiom (DisjointClasses bs) h m =
       All-map RowIs (λ p. never (Basics p.0 p.1)) (pairs bs)
-      (All-weaker (Both BasicHasNoFiller) (λ p. RowIs (never (Basics p.0 p.1)))
-      (λ p k. All-append Is (basic_bases p.0) (basic_bases p.1) (of_basic p.0 k.0) (of_basic p.1 k.1)) (pairs bs) (All-pairs BasicHasNoFiller bs h))
+      (All-weaker (Both BasicHasNoAuxiliary) (λ p. RowIs (never (Basics p.0 p.1)))
+      (λ p k. All-append Is (basic_bases p.0) (basic_bases p.1) (of_basic p.0 k.0) (of_basic p.1 k.1)) (pairs bs) (All-pairs BasicHasNoAuxiliary bs h))
   of_axiom (SubRole r s) h m = one_row (role_in r s) (two r.base s.base (inl h.0) (inl h.1))
-  of_axiom (EquivalentRoles rs) h m = of_roles (ring rs) (All-ring RoleHasNoFiller rs h)
+  of_axiom (EquivalentRoles rs) h m = of_roles (ring rs) (All-ring RoleHasNoAuxiliary rs h)
   of_axiom (DisjointRoles rs) h m =
       All-map RowIs (λ p. never (Roles p.0 p.1)) (pairs rs)
-      (All-weaker (Both RoleHasNoFiller) (λ p. RowIs (never (Roles p.0 p.1))) (λ p k. two p.0.base p.1.base (inl k.0) (inl k.1)) (pairs rs)
-      (All-pairs RoleHasNoFiller rs h))
+      (All-weaker (Both RoleHasNoAuxiliary) (λ p. RowIs (never (Roles p.0 p.1))) (λ p k. two p.0.base p.1.base (inl k.0) (inl k.1)) (pairs rs)
+      (All-pairs RoleHasNoAuxiliary rs h))
   of_axiom (InverseRoles r s) h m =
       All-cons RowIs (role_in r (inverse_of s)) (role_in (inverse_of s) r ∷ []) (two r.base s.base (inl h.0) (inl h.1))
       (one_row (role_in (inverse_of s) r) (two s.base r.base (inl h.1) (inl h.0)))
@@ -221,7 +221,7 @@ module _ (axioms : List Axiom) where
   of_axiom (Asymmetric r) h m = one_row (never (Roles r (inverse_of r))) (two r.base r.base (inl h) (inl h))
   of_axiom (Irreflexive r) h m = one_row (never (NoLoop r)) (one r.base (inl h))
 
-  pub of_axioms : All HasNoFiller axioms → (row : Row) → Contains (rows_of axioms) row → All Is (row_bases row)
+  pub of_axioms : All HasNoAuxiliary axioms → (row : Row) → Contains (rows_of axioms) row → All Is (row_bases row)
   of_axioms all row c =
       let w = Contains-flat_map axiom_rows axioms row c in
-      All-contains RowIs (axiom_rows w.0) row (of_axiom w.0 (All-contains HasNoFiller axioms w.0 all w.1) w.1) w.2
+      All-contains RowIs (axiom_rows w.0) row (of_axiom w.0 (All-contains HasNoAuxiliary axioms w.0 all w.1) w.1) w.2

@@ -1,10 +1,10 @@
--- The pairs of role and class for which a normal form has a filler. Fillers are this project's own.
+-- The pairs of role and class for which a normal form has an auxiliary role. Auxiliary roles are this project's own.
 use Rattle.std.specs.Prelude.{◌≡◌, ◌≢◌, ◌↔◌, ◌⊎◌, ℕ, List, [], ◌∷◌, ◌++◌, map, length, Contains, AllPairs}
 use Rattle.std.specs.List.{flat_map, filter_map}
 use Rattle.std.specs.declared.option.Option.{Option}
 use Rattle.std.specs.declared.option.Option.TheVariants.{Some, None}
-use Rattle.dl_terms.specs.Roles.{filler_of}
-use Rattle.dl_terms.specs.Fillers.{IsNamed}
+use Rattle.dl_terms.specs.Roles.{auxiliary_of}
+use Rattle.dl_terms.specs.Auxiliaries.{IsNamed}
 use Rattle.dl_terms.specs.NormalForm.{Row, role_in, concept_in, never}
 use Rattle.dl_terms.specs.declared.role.Base.{Base}
 use Rattle.dl_terms.specs.declared.role.Role.{Role}
@@ -55,6 +55,6 @@ row_bases (role_in r s) = r.base ∷ s.base ∷ []
 row_bases (concept_in b c) = basic_bases b ++ basic_bases c
 row_bases (never n) = negative_bases n
 
--- the role name is one of the input, or the filler of a pair of role and class in a part of the axioms
+-- the role name is one of the input, or the auxiliary role of a pair of role and class in a part of the axioms
 abbrev pub IsOfAxioms : List Axiom → Base → Type 0
-IsOfAxioms axioms b = IsNamed b ⊎ Contains (map (λ p. (filler_of p.0 p.1).base) (filled_pairs axioms)) b
+IsOfAxioms axioms b = IsNamed b ⊎ Contains (map (λ p. (auxiliary_of p.0 p.1).base) (filled_pairs axioms)) b

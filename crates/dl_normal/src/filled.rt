@@ -1,6 +1,6 @@
 ghost use Rattle.std.specs.Prelude.{◌≡◌, ◌++◌, List as Items, All, Contains, IfOk, OnOk, option_to_list};
 ghost use Rattle.std.specs.List.{filter_map};
-ghost use Rattle.dl_terms.specs.Fillers.{HasNoFiller};
+ghost use Rattle.dl_terms.specs.Auxiliaries.{HasNoAuxiliary};
 ghost use Rattle.dl_terms.specs.NormalForm.{Row, rows_of};
 ghost use Rattle.dl_terms.specs.declared.axiom.Axiom.{Axiom};
 ghost use Rattle.dl_normal.specs.Filled.{parts_of, filled, filled_pairs, row_bases, IsOfAxioms, HasDistinct};
@@ -9,8 +9,8 @@ use dl_terms::{Axiom, List, NoMemory, Part, Role, set_of};
 use std::alloc::Global;
 
 /// How many different pairs of role and class are in parts "some role in class" of the axioms, which are as many
-/// fillers. Fails only for want of memory.
-pub fn fillers(alloc: Global, axioms: &[Axiom]) -> Result<u64, NoMemory>
+/// auxiliary roles. Fails only for want of memory.
+pub fn auxiliaries(alloc: Global, axioms: &[Axiom]) -> Result<u64, NoMemory>
     ensures { IfOk result (HasDistinct (filled_pairs axioms.now)) }
 {
     let mut pairs = List::new(alloc);
@@ -52,10 +52,10 @@ fn push_filled_part(pairs: &mut List<(Role, u32)>, part: Part) -> Result<(), NoM
     }
 }
 
-/// The law of fillers: each role name in the rows of axioms that have no filler is one of the input, or the filler of
-/// a pair of role and class in a part "some role in class" of these axioms. So no more fillers are in the rows than
-/// `fillers` counts.
-pub fn fillers_are_of_parts()
-    ensures { (axioms : Items Axiom) → All HasNoFiller axioms → (row : Row) →
+/// The law of auxiliary roles: each role name in the rows of axioms that have no auxiliary role is one of the input, or the auxiliary role of
+/// a pair of role and class in a part "some role in class" of these axioms. So no more auxiliary roles are in the rows than
+/// `auxiliaries` counts.
+pub fn auxiliaries_are_of_parts()
+    ensures { (axioms : Items Axiom) → All HasNoAuxiliary axioms → (row : Row) →
         Contains (rows_of axioms) row → All (IsOfAxioms axioms) (row_bases row) }
 {}

@@ -6,7 +6,7 @@ ghost use Rattle.dl_normal.specs.Indexed.{IsNormalForm};
 ghost use Rattle.dl_normal.specs.Growing.{Gains};
 
 use crate::operands::{push_pairs, push_ring};
-use crate::roles::{filler_of, inverse_of};
+use crate::roles::{auxiliary_of, inverse_of};
 use dl_terms::{Axiom, Basic, List, Negative, NoMemory, Normal, Part, Role};
 use std::alloc::Global;
 
@@ -96,7 +96,7 @@ fn push_part(normal: &mut Normal, index: u32, sub: Basic, part: Part) -> Result<
     }
 }
 
-/// Adds that a basic concept is in "some role in class", by the filler of the two.
+/// Adds that a basic concept is in "some role in class", by the auxiliary role of the two.
 fn push_fill(
     normal: &mut Normal,
     index: u32,
@@ -106,9 +106,9 @@ fn push_fill(
 ) -> Result<(), NoMemory>
     ensures { OnOk result (Gains index (part_rows sub (Fill role class)) normal.old normal.new) }
 {
-    let filler = filler_of(role, class);
-    normal.concepts.push((sub, Basic::SomeOf(filler)))?;
-    normal.roles.push((filler, role))?;
-    let end = Basic::SomeOf(inverse_of(filler));
+    let auxiliary = auxiliary_of(role, class);
+    normal.concepts.push((sub, Basic::SomeOf(auxiliary)))?;
+    normal.roles.push((auxiliary, role))?;
+    let end = Basic::SomeOf(inverse_of(auxiliary));
     normal.concepts.push((end, Basic::Class(class)))
 }

@@ -1,4 +1,4 @@
-// The normal form of axioms: role inclusions, concept inclusions and negatives. Its size, and its fillers, without
+// The normal form of axioms: role inclusions, concept inclusions and negatives. Its size, and its auxiliary roles, without
 // making it.
 #![tactic(auto)]
 
@@ -8,6 +8,6 @@ mod operands;
 mod roles;
 mod size;
 
-pub use filled::{fillers, fillers_are_of_parts};
+pub use filled::{auxiliaries, auxiliaries_are_of_parts};
 pub use form::normal;
 pub use size::weight;

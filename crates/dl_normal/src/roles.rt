@@ -1,6 +1,6 @@
 // Roles made of roles.
 ghost use Rattle.std.specs.Prelude.{◌≡◌};
-ghost use Rattle.dl_terms.specs.Roles.{inverse_of, filler_of};
+ghost use Rattle.dl_terms.specs.Roles.{inverse_of, auxiliary_of};
 
 use dl_terms::{Base, Role};
 
@@ -14,17 +14,17 @@ pub(crate) fn inverse_of(role: Role) -> Role
     }
 }
 
-/// The filler of a role and a class. That of a filler's role, which no axiom has, is that filler itself.
-pub(crate) fn filler_of(role: Role, class: u32) -> Role
-    ensures { result ≡ filler_of role class }
+/// The auxiliary role of a role and a class. That of an auxiliary role's role, which no axiom has, is that auxiliary role itself.
+pub(crate) fn auxiliary_of(role: Role, class: u32) -> Role
+    ensures { result ≡ auxiliary_of role class }
 {
     let base = match role.base {
-        Base::Named(name) => Base::Filler {
+        Base::Named(name) => Base::Auxiliary {
             role: name,
             inverse: role.inverse,
             class,
         },
-        Base::Filler { .. } => role.base,
+        Base::Auxiliary { .. } => role.base,
     };
     Role {
         base,

@@ -19,7 +19,7 @@ use Rattle.dl_terms.specs.declared.role.Role.{Role}
 use Rattle.dl_terms.specs.declared.role.Basic.{Basic}
 use Rattle.dl_terms.specs.declared.axiom.Part.{Part}
 use Rattle.dl_terms.specs.declared.axiom.Axiom.{Axiom}
-use Rattle.dl_terms.specs.Fillers.{RoleHasNoFiller, BasicHasNoFiller, PartHasNoFiller, HasNoFiller}
+use Rattle.dl_terms.specs.Auxiliaries.{RoleHasNoAuxiliary, BasicHasNoAuxiliary, PartHasNoAuxiliary, HasNoAuxiliary}
 use Rattle.dl_terms.specs.Occurring.{role_names, basic_names, part_names, axiom_names}
 use Rattle.dl_terms.specs.Renamed.{renamed_role, renamed_basic, renamed_part, renamed_axiom}
 use Rattle.dl_owl.specs.declared.document.Document.{Document}
@@ -103,15 +103,15 @@ value_stated bytes e before after document (inr lone) h =
 
 -- ---- none of them has a filler
 
-role_plain : (names : List name_list.Text) (r : Role) → RoleIn names r → RoleHasNoFiller r
+role_plain : (names : List name_list.Text) (r : Role) → RoleIn names r → RoleHasNoAuxiliary r
 role_plain names _ (stating.RoleIn.plain h) = tt
 role_plain names _ (stating.RoleIn.inverse h) = tt
 
-basic_plain : (names : List name_list.Text) (b : Basic) → BasicIn names b → BasicHasNoFiller b
+basic_plain : (names : List name_list.Text) (b : Basic) → BasicIn names b → BasicHasNoAuxiliary b
 basic_plain names _ (stating.BasicIn.class h) = tt
 basic_plain names _ (stating.BasicIn.some {r = r} h) = role_plain names r h
 
-part_plain : (names : List name_list.Text) (p : Part) → PartIn names p → PartHasNoFiller p
+part_plain : (names : List name_list.Text) (p : Part) → PartIn names p → PartHasNoAuxiliary p
 part_plain names _ stating.PartIn.thing = tt
 part_plain names _ (stating.PartIn.class h) = tt
 part_plain names _ (stating.PartIn.any {r = r} h) = role_plain names r h
@@ -122,19 +122,19 @@ each_weaker : {X : Type 0} (P Q : X → Type 0) → ((x : X) → P x → Q x) �
 each_weaker P Q f _ no_items = All-nil Q
 each_weaker P Q f _ (an_item {x = x} {xs = xs} h hs) = All-cons Q x xs (f x h) (each_weaker P Q f xs hs)
 
-parts_plain : (names : List name_list.Text) (ps : List Part) → PartsIn names ps → All PartHasNoFiller ps
+parts_plain : (names : List name_list.Text) (ps : List Part) → PartsIn names ps → All PartHasNoAuxiliary ps
 parts_plain names _ (stating.PartsIn.parts {p = p} {ps = ps} h hs) =
-    All-cons PartHasNoFiller p ps (part_plain names p h) (each_weaker (PartIn names) PartHasNoFiller (part_plain names) ps hs)
+    All-cons PartHasNoAuxiliary p ps (part_plain names p h) (each_weaker (PartIn names) PartHasNoAuxiliary (part_plain names) ps hs)
 
-axiom_plain : (names : List name_list.Text) (a : Axiom) → AxiomIn names a → HasNoFiller a
+axiom_plain : (names : List name_list.Text) (a : Axiom) → AxiomIn names a → HasNoAuxiliary a
 axiom_plain names _ (stating.AxiomIn.sub_class {b = b} {ps = ps} h g) = (basic_plain names b h, parts_plain names ps g)
 axiom_plain names _ (stating.AxiomIn.equivalent_classes {bs = bs} h two) =
-    each_weaker (BasicIn names) BasicHasNoFiller (basic_plain names) bs h
+    each_weaker (BasicIn names) BasicHasNoAuxiliary (basic_plain names) bs h
 axiom_plain names _ (stating.AxiomIn.disjoint_classes {bs = bs} h two) =
-    each_weaker (BasicIn names) BasicHasNoFiller (basic_plain names) bs h
+    each_weaker (BasicIn names) BasicHasNoAuxiliary (basic_plain names) bs h
 axiom_plain names _ (stating.AxiomIn.sub_role {r = r} {s = s} h g) = (role_plain names r h, role_plain names s g)
-axiom_plain names _ (stating.AxiomIn.equivalent_roles {rs = rs} h two) = each_weaker (RoleIn names) RoleHasNoFiller (role_plain names) rs h
-axiom_plain names _ (stating.AxiomIn.disjoint_roles {rs = rs} h two) = each_weaker (RoleIn names) RoleHasNoFiller (role_plain names) rs h
+axiom_plain names _ (stating.AxiomIn.equivalent_roles {rs = rs} h two) = each_weaker (RoleIn names) RoleHasNoAuxiliary (role_plain names) rs h
+axiom_plain names _ (stating.AxiomIn.disjoint_roles {rs = rs} h two) = each_weaker (RoleIn names) RoleHasNoAuxiliary (role_plain names) rs h
 axiom_plain names _ (stating.AxiomIn.inverse_roles {r = r} {s = s} h g) = (role_plain names r h, role_plain names s g)
 axiom_plain names _ (stating.AxiomIn.domain {r = r} {ps = ps} h g) = (role_plain names r h, parts_plain names ps g)
 axiom_plain names _ (stating.AxiomIn.range {r = r} {ps = ps} h g) = (role_plain names r h, parts_plain names ps g)
@@ -142,8 +142,8 @@ axiom_plain names _ (stating.AxiomIn.symmetric {r = r} h) = role_plain names r h
 axiom_plain names _ (stating.AxiomIn.asymmetric {r = r} h) = role_plain names r h
 axiom_plain names _ (stating.AxiomIn.irreflexive {r = r} h) = role_plain names r h
 
-pub axioms_plain : (names : List name_list.Text) (axioms : List Axiom) → Each (AxiomIn names) axioms → All HasNoFiller axioms
-axioms_plain names axioms h = each_weaker (AxiomIn names) HasNoFiller (axiom_plain names) axioms h
+pub axioms_plain : (names : List name_list.Text) (axioms : List Axiom) → Each (AxiomIn names) axioms → All HasNoAuxiliary axioms
+axioms_plain names axioms h = each_weaker (AxiomIn names) HasNoAuxiliary (axiom_plain names) axioms h
 
 -- ---- over another list that has the names
 

@@ -1,7 +1,7 @@
 -- From the first token of the bytes to all that is read.
 use Rattle.std.proofs.Common.{◌≡◌, ◌≢◌, ◌<◌, ℕ, true, false, All, Result, Ok, Err, IfOk, IfErr, List, [], ◌∷◌, length, inl, inr, sym, ap, ◌∙◌, subst, ◌⊎◌}
 use Rattle.dl_names.specs.NameList.{Text, Extends}
-use Rattle.dl_terms.specs.Fillers.{HasNoFiller}
+use Rattle.dl_terms.specs.Auxiliaries.{HasNoAuxiliary}
 use Rattle.dl_terms.specs.Occurring.{axiom_names, fact_names}
 use Rattle.dl_owl.specs.declared.document.Document.{Document}
 use Rattle.dl_owl.specs.declared.fault.OwlFault.{OwlFault}
@@ -76,8 +76,8 @@ module _ (bytes : List ℕ) (e : Expected) (names : List Text) where
       told_fault (Ok d) h = tt
       told_fault (Err fault) h = fault_given fault h.why
 
-      pub told_plain : ((d : Document) → ReadsValue bytes e names d after → All HasNoFiller d.axioms) → (r : Result Document OwlFault)
-          → Ends e (here s predefined names) after r → IfOk r (λ d. All HasNoFiller d.axioms)
+      pub told_plain : ((d : Document) → ReadsValue bytes e names d after → All HasNoAuxiliary d.axioms) → (r : Result Document OwlFault)
+          → Ends e (here s predefined names) after r → IfOk r (λ d. All HasNoAuxiliary d.axioms)
       told_plain plain (Ok d) h = plain d (value_given d after h)
       told_plain plain (Err fault) h = tt
 

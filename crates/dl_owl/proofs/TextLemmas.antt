@@ -8,7 +8,7 @@ use Rattle.std.proofs.lemmas.List.{take_all}
 use Rattle.std.proofs.lemmas.List.Elements.{All-nil, All-cons}
 use Rattle.std.proofs.lemmas.List.Folds.{flat_map-map}
 use Rattle.dl_terms.specs.declared.role.Base.{Base}
-use Rattle.dl_terms.specs.declared.role.Base.TheVariants.{Named, Filler}
+use Rattle.dl_terms.specs.declared.role.Base.TheVariants.{Named, Auxiliary}
 use Rattle.dl_terms.specs.declared.role.Role.{Role}
 use Rattle.dl_terms.specs.Occurring.{base_names, role_names}
 use Rattle.dl_owl.specs.Items.{property_of_base, property_of}
@@ -39,7 +39,7 @@ role_below count r h = by r.base h
   where
     by : (b : Base) → AreBelow count (base_names b) → property_of_base b < count
     by (Named n) g = below_head count n [] g
-    by (Filler n i c) g = below_head count n (c ∷ []) g
+    by (Auxiliary n i c) g = below_head count n (c ∷ []) g
 
 pub below_left : (count : ℕ) (xs ys : List ℕ) → AreBelow count (xs ++ ys) → AreBelow count xs
 below_left count [] ys h = All-nil (λ n. n < count)

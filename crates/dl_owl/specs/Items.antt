@@ -4,7 +4,7 @@ use Rattle.dl_terms.specs.declared.role.Role.{Role}
 use Rattle.dl_terms.specs.declared.axiom.Fact.{Fact}
 use Rattle.dl_terms.specs.declared.axiom.Fact.TheVariants.{Link}
 use Rattle.dl_terms.specs.declared.role.Base.{Base}
-use Rattle.dl_terms.specs.declared.role.Base.TheVariants.{Named, Filler}
+use Rattle.dl_terms.specs.declared.role.Base.TheVariants.{Named, Auxiliary}
 use Rattle.dl_owl.specs.declared.document.Document.{Document}
 use Rattle.dl_owl.specs.declared.item.Item.{Item}
 use Rattle.dl_owl.specs.declared.item.Item.TheVariants.{Axiom as axiom_item, Fact as fact_item, Class as class_item, Role as role_item, NoEffect as no_effect}
@@ -23,7 +23,7 @@ with_item d no_effect = d
 -- the object property of a role, which is no filler here
 abbrev pub property_of_base : Base → ℕ
 property_of_base (Named n) = n
-property_of_base (Filler n i c) = n
+property_of_base (Auxiliary n i c) = n
 
 abbrev pub property_of : Role → ℕ
 property_of r = property_of_base r.base

@@ -148,11 +148,11 @@ fn ranked_base(ranks: &Ranks, base: Base) -> Base
 {
     match base {
         Base::Named(name) => Base::Named(ranks.of(name)),
-        Base::Filler {
+        Base::Auxiliary {
             role,
             inverse,
             class,
-        } => Base::Filler {
+        } => Base::Auxiliary {
             role: ranks.of(role),
             inverse,
             class: ranks.of(class),

@@ -1,7 +1,7 @@
 // Reads an ontology, or one axiom.
 ghost use Rattle.std.specs.Prelude.{◌≡◌, ◌≢◌, ◌<◌, length, All, IfOk, IfErr};
 ghost use Rattle.dl_names.specs.NameList.{Extends};
-ghost use Rattle.dl_terms.specs.Fillers.{HasNoFiller};
+ghost use Rattle.dl_terms.specs.Auxiliaries.{HasNoAuxiliary};
 ghost use Rattle.dl_terms.specs.Occurring.{axiom_names, fact_names};
 ghost use Rattle.dl_owl.specs.Expected.{prologue, lone_axiom};
 ghost use Rattle.dl_owl.specs.Reading.{ReadsValue, IsFault};
@@ -30,7 +30,7 @@ pub fn read_ontology(alloc: Global, bytes: &[u8], names: &mut NameSet) -> Result
     ensures role_places { IfOk result (λ document.
         All (λ place. place < length names.new) document.roles) }
     ensures grows { Extends names.old names.new }
-    ensures no_fillers { IfOk result (λ document. All HasNoFiller document.axioms) }
+    ensures no_auxiliaries { IfOk result (λ document. All HasNoAuxiliary document.axioms) }
 {
     match Cursor::new(bytes) {
         Ok(mut at) => whole(alloc, &mut at, names),
@@ -53,7 +53,7 @@ pub fn read_axiom(alloc: Global, bytes: &[u8], names: &mut NameSet) -> Result<Do
     ensures role_places { IfOk result (λ document.
         All (λ place. place < length names.new) document.roles) }
     ensures grows { Extends names.old names.new }
-    ensures no_fillers { IfOk result (λ document. All HasNoFiller document.axioms) }
+    ensures no_auxiliaries { IfOk result (λ document. All HasNoAuxiliary document.axioms) }
 {
     match Cursor::new(bytes) {
         Ok(mut at) => lone(alloc, &mut at, names),

@@ -53,7 +53,7 @@ pub(crate) fn property_of(role: Role) -> u32
 {
     match role.base {
         Base::Named(name) => name,
-        Base::Filler { role, .. } => role,
+        Base::Auxiliary { role, .. } => role,
     }
 }
 

@@ -85,5 +85,5 @@ module _ (axioms : List Axiom) (signature : Signature) (normal : Normal) (p : Pr
   pub links_known : (facts : List Fact) → ((q a b : ℕ) → Contains facts (Link q a b) → Contains signature.roles q)
       → LinksAreKnown facts (hierarchy.roles p)
   links_known facts known q a b c =
-      base-role p (named q) (Contains-append_left (map Named p.properties) p.fillers (Named q)
+      base-role p (named q) (Contains-append_left (map Named p.properties) p.auxiliaries (Named q)
       (Contains-map_of Named p.properties q ((are.properties.members q).1 (known q a b c))))

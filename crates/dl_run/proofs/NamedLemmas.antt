@@ -3,7 +3,7 @@ use Rattle.std.proofs.Common.{◌≡◌, ℕ, ◌<◌, ◌&&◌, not, List, [], 
 use Rattle.std.specs.List.{list_any, range_with_len}
 use Rattle.std.proofs.lemmas.List.{length-map}
 use Rattle.std.proofs.lemmas.List.Elements.{All-map, All-weaker, All-contains, Contains-get_or, Contains-append_left, Contains-append_right, Contains-append_cases}
-use Rattle.dl_terms.specs.Fillers.{HasNoFiller}
+use Rattle.dl_terms.specs.Auxiliaries.{HasNoAuxiliary}
 use Rattle.dl_terms.specs.NormalForm.{axiom_rows, as_negative, axiom_negatives, nothing_negative, negatives}
 use Rattle.dl_terms.specs.Occurring.{axiom_names, fact_names}
 use Rattle.dl_terms.specs.Order.{axiom_cmp}
@@ -29,7 +29,7 @@ use Rattle.dl_terms.specs.declared.query.Term.TheVariants.{Var, Name}
 use Rattle.dl_terms.specs.declared.query.Atom.{Atom}
 use Rattle.dl_terms.specs.declared.query.Atom.TheVariants as atom
 use Rattle.dl_terms.specs.declared.query.Query.{Query}
-use Rattle.dl_terms.proofs.FillerLemmas.{renamed_axiom-named}
+use Rattle.dl_terms.proofs.AuxiliaryLemmas.{renamed_axiom-named}
 use Rattle.dl_terms.proofs.MemberLemmas.{Contains-one, Contains-nil, Contains-middle}
 use Rattle.dl_terms.proofs.StructureLemmas.{individual-child}
 use Rattle.dl_hier.proofs.MemberLemmas.{Contains-map, Contains-map_of, Contains-flat_map, Contains-flat_map_of}
@@ -71,14 +71,14 @@ module _ (to : ℕ → ℕ) where
         head = formed.head;
       }
 
-  -- a set of axioms without fillers stays one
-  pub plain_renamed : (items set : List Axiom) → All HasNoFiller items → IsSetOf axiom_cmp set (map (renamed_axiom to) items) → All HasNoFiller set
+  -- a set of axioms without auxiliary roles stays one
+  pub plain_renamed : (items set : List Axiom) → All HasNoAuxiliary items → IsSetOf axiom_cmp set (map (renamed_axiom to) items) → All HasNoAuxiliary set
   plain_renamed items set all of k d h =
       let renamed =
-      All-map HasNoFiller (renamed_axiom to) items
-      (All-weaker HasNoFiller (λ a. HasNoFiller (renamed_axiom to a)) (renamed_axiom-named to) items all)
+      All-map HasNoAuxiliary (renamed_axiom to) items
+      (All-weaker HasNoAuxiliary (λ a. HasNoAuxiliary (renamed_axiom to a)) (renamed_axiom-named to) items all)
       in
-      All-contains HasNoFiller (map (renamed_axiom to) items) (get_or set k d) renamed ((of.members (get_or set k d)).0 (Contains-get_or set k d h))
+      All-contains HasNoAuxiliary (map (renamed_axiom to) items) (get_or set k d) renamed ((of.members (get_or set k d)).0 (Contains-get_or set k d h))
 
 -- ---- names of certain answers
 

@@ -16,7 +16,7 @@ use Rattle.dl_run.specs.Input.{Load, IsNumberOf, AreInput}
 use Rattle.dl_run.specs.Signature.{IsSignatureOf}
 use Rattle.std.specs.List.{All}
 use Rattle.std.specs.List.Sorted.{IsStrictlySortedBy}
-use Rattle.dl_terms.specs.Fillers.{HasNoFiller}
+use Rattle.dl_terms.specs.Auxiliaries.{HasNoAuxiliary}
 use Rattle.dl_terms.specs.Queries.{IsWellFormed}
 use Rattle.dl_epoch.specs.Known.{IsSignature, IsAxiomIn}
 use Rattle.dl_core.specs.Loading.{IsFactIn}
@@ -35,11 +35,11 @@ load_of asked = record {
   nothing = asked.nothing;
 }
 
--- what is asked is as its readers make it: axioms and facts ascend, no axiom has a filler, the signature is one and has
+-- what is asked is as its readers make it: axioms and facts ascend, no axiom has an auxiliary role, the signature is one and has
 -- all predicates, and the query is well formed
 pub record IsMade (asked : Asked) : Type 0 where
   pub ascending : IsStrictlySortedBy axiom_cmp asked.axioms
-  pub no_fillers : All HasNoFiller asked.axioms
+  pub no_auxiliaries : All HasNoAuxiliary asked.axioms
   pub known : All (IsAxiomIn asked.signature) asked.axioms
   pub signature : IsSignature asked.signature
   pub facts_ascending : IsStrictlySortedBy fact_cmp asked.facts

@@ -1,7 +1,7 @@
 // What the three files of `answer` give.
 ghost use Rattle.std.specs.Prelude.{◌≡◌, ◌<◌, ◌++◌, length, IfOk};
 ghost use Rattle.std.specs.List.{All};
-ghost use Rattle.dl_terms.specs.Fillers.{HasNoFiller};
+ghost use Rattle.dl_terms.specs.Auxiliaries.{HasNoAuxiliary};
 ghost use Rattle.dl_terms.specs.Occurring.{axiom_names, fact_names, query_names};
 ghost use Rattle.dl_terms.specs.Queries.{IsWellFormed};
 ghost use Rattle.dl_run.specs.Asked.{Gives, IsNumbered, IsMade};
@@ -49,7 +49,7 @@ fn numbered(
     triples: Triples,
     query: Query,
 ) -> Result<Asked, NoMemory>
-    requires no_fillers { All HasNoFiller document.axioms }
+    requires no_auxiliaries { All HasNoAuxiliary document.axioms }
     requires well_formed { IsWellFormed query }
     requires query_placed { All (λ place. place < length names) (query_names query) }
     requires axioms_placed { All (λ stated.

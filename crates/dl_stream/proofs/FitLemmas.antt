@@ -15,7 +15,7 @@ use Rattle.dl_core.specs.declared.event.Item.TheVariants as item
 use Rattle.dl_core.specs.declared.event.Edit.{Edit}
 use Rattle.dl_core.specs.declared.event.Event.{Event}
 use Rattle.dl_core.specs.declared.event.Event.TheVariants as event
-use Rattle.dl_core.specs.Next.{ItemHasNoFiller}
+use Rattle.dl_core.specs.Next.{ItemHasNoAuxiliary}
 use Rattle.dl_triples.proofs.PlaceLemmas.{IsWithin, read_within}
 use Rattle.dl_query.specs.Queries as queries
 use Rattle.dl_query.proofs.GrammarLemmas.{query-grows}
@@ -145,7 +145,7 @@ abbrev Right : ℕ → Command → Type 0
 Right count c = CommandBelow count c × IsFit c
 
 abbrev RightEdit : ℕ → Edit → Type 0
-RightEdit count e = ItemBelow count e.item × ItemHasNoFiller e.item
+RightEdit count e = ItemBelow count e.item × ItemHasNoAuxiliary e.item
 
 item_more : (a b : ℕ) → a ≤ b → (i : Item) → ItemBelow a i → ItemBelow b i
 item_more a b le i = All-weaker (λ n. n < a) (λ n. n < b) (λ n h. omega arith) (item_names i)
@@ -234,17 +234,17 @@ pushed_right {count} {before} {commands} c h right few = record {
 
 event_right : (count : ℕ) (e : Event) → SimpleEvent e → Right count (Put e)
 event_right count (event.Commit made) h = absurd h
-event_right count event.Pin h = (tt, record { in_range = tt; no_filler = tt })
-event_right count event.Unpin h = (tt, record { in_range = tt; no_filler = tt })
-event_right count (event.Migrate shard n) h = (tt, record { in_range = h; no_filler = tt })
-event_right count (event.Sweep shard n) h = (tt, record { in_range = h; no_filler = tt })
-event_right count event.Reclaim h = (tt, record { in_range = tt; no_filler = tt })
-event_right count (event.Look rows) h = (tt, record { in_range = h; no_filler = tt })
+event_right count event.Pin h = (tt, record { in_range = tt; no_auxiliary = tt })
+event_right count event.Unpin h = (tt, record { in_range = tt; no_auxiliary = tt })
+event_right count (event.Migrate shard n) h = (tt, record { in_range = h; no_auxiliary = tt })
+event_right count (event.Sweep shard n) h = (tt, record { in_range = h; no_auxiliary = tt })
+event_right count event.Reclaim h = (tt, record { in_range = tt; no_auxiliary = tt })
+event_right count (event.Look rows) h = (tt, record { in_range = h; no_auxiliary = tt })
 
 commit_right : (count : ℕ) (made : List Edit) → All (RightEdit count) made → Right count (Put (event.Commit made))
 commit_right count made h = (
   All-weaker (RightEdit count) (λ e. ItemBelow count e.item) (λ e g. g.0) made h,
-  record { in_range = tt; no_filler = All-weaker (RightEdit count) (λ e. ItemHasNoFiller e.item) (λ e g. g.1) made h },
+  record { in_range = tt; no_auxiliary = All-weaker (RightEdit count) (λ e. ItemHasNoAuxiliary e.item) (λ e g. g.1) made h },
 )
 
 -- names grow, and what is right stays so

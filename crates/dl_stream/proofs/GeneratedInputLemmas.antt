@@ -4,11 +4,11 @@ use Rattle.std.specs.List.{AllByRecursion, Contains, range_with_len}
 use Rattle.std.proofs.lemmas.List.Elements.{All-nil, All-cons, All-append, All-from_recursion}
 use Rattle.dl_terms.specs.declared.axiom.Axiom.{Axiom}
 use Rattle.dl_terms.specs.declared.axiom.Fact.TheVariants as fact
-use Rattle.dl_terms.specs.Fillers.{HasNoFiller, PartHasNoFiller}
+use Rattle.dl_terms.specs.Auxiliaries.{HasNoAuxiliary, PartHasNoAuxiliary}
 use Rattle.dl_terms.specs.Occurring.{axiom_names, fact_names}
 use Rattle.dl_terms.specs.Queries.{IsWellFormed}
 use Rattle.dl_owl.specs.AxiomText.{AreBelow}
-use Rattle.dl_core.specs.Next.{ItemHasNoFiller}
+use Rattle.dl_core.specs.Next.{ItemHasNoAuxiliary}
 use Rattle.dl_stream.specs.Commands.{ItemBelow, CommandBelow}
 use Rattle.dl_stream.specs.Generator.{next_state, drawn, individual, role, class_below, role_below, class_filled, first_domain, generated_axioms, generated_edits, drawn_fact, behind_fact, drawn_facts, generated_query, generated_commands}
 
@@ -35,13 +35,13 @@ all_axioms P size classes roles filled domain =
 below : (count : ℕ) (xs : List ℕ) → AllByRecursion (λ n. n < count) xs → AreBelow count xs
 below count xs h = All-from_recursion (λ n. n < count) xs h
 
-pub axioms_without_filler : (size : ℕ) → All HasNoFiller (generated_axioms size)
-axioms_without_filler size =
-    all_axioms HasNoFiller size
-    (λ i low high. (tt, All-cons PartHasNoFiller _ [] tt (All-nil PartHasNoFiller)))
+pub axioms_without_auxiliary : (size : ℕ) → All HasNoAuxiliary (generated_axioms size)
+axioms_without_auxiliary size =
+    all_axioms HasNoAuxiliary size
+    (λ i low high. (tt, All-cons PartHasNoAuxiliary _ [] tt (All-nil PartHasNoAuxiliary)))
     (λ j high. (tt, tt))
-    (λ j high. (tt, All-cons PartHasNoFiller _ [] tt (All-nil PartHasNoFiller)))
-    (tt, All-cons PartHasNoFiller _ [] tt (All-nil PartHasNoFiller))
+    (λ j high. (tt, All-cons PartHasNoAuxiliary _ [] tt (All-nil PartHasNoAuxiliary)))
+    (tt, All-cons PartHasNoAuxiliary _ [] tt (All-nil PartHasNoAuxiliary))
 
 pub axiom_names_below : (size : ℕ) → All (λ a. AreBelow (40 + size) (axiom_names a)) (generated_axioms size)
 axiom_names_below size =
@@ -95,10 +95,10 @@ command_names_below size =
         All-from_recursion (λ e. ItemBelow (40 + size) e.item) generated_edits
         (below (40 + size) (1 ∷ 0 ∷ []) (omega arith, (omega arith, tt)), (below (40 + size) (31 ∷ 0 ∷ []) (omega arith, (omega arith, tt)), tt))
 
-pub edits_without_filler : All (λ e. ItemHasNoFiller e.item) generated_edits
-edits_without_filler =
-    All-from_recursion (λ e. ItemHasNoFiller e.item) generated_edits
-    ((tt, All-cons PartHasNoFiller _ [] tt (All-nil PartHasNoFiller)), ((tt, All-cons PartHasNoFiller _ [] tt (All-nil PartHasNoFiller)), tt))
+pub edits_without_auxiliary : All (λ e. ItemHasNoAuxiliary e.item) generated_edits
+edits_without_auxiliary =
+    All-from_recursion (λ e. ItemHasNoAuxiliary e.item) generated_edits
+    ((tt, All-cons PartHasNoAuxiliary _ [] tt (All-nil PartHasNoAuxiliary)), ((tt, All-cons PartHasNoAuxiliary _ [] tt (All-nil PartHasNoAuxiliary)), tt))
 
 pub query_formed : (size : ℕ) → IsWellFormed (generated_query size)
 query_formed size = record {

@@ -10,12 +10,12 @@ use Rattle.dl_terms.specs.declared.query.Atom.TheVariants as atom
 use Rattle.dl_terms.specs.declared.query.Query.{Query}
 use Rattle.dl_terms.specs.Queries.{term_variables, atom_variables, body_variables, IsWellFormed}
 use Rattle.dl_terms.specs.Renamed.{renamed_term, renamed_atom, renamed_query}
-use Rattle.dl_terms.proofs.FillerLemmas.{renamed_axiom-named}
+use Rattle.dl_terms.proofs.AuxiliaryLemmas.{renamed_axiom-named}
 use Rattle.dl_core.specs.declared.event.Item.{Item}
 use Rattle.dl_core.specs.declared.event.Item.TheVariants as item
 use Rattle.dl_core.specs.declared.event.Event.{Event}
 use Rattle.dl_core.specs.declared.event.Event.TheVariants as event
-use Rattle.dl_core.specs.Next.{ItemHasNoFiller}
+use Rattle.dl_core.specs.Next.{ItemHasNoAuxiliary}
 use Rattle.dl_stream.specs.declared.streams.Command.{Command}
 use Rattle.dl_stream.specs.declared.streams.Command.TheVariants.{Put, Ask}
 use Rattle.dl_stream.specs.Commands.{IsTaken, IsFit, renamed_item, renamed_edit, renamed_event, renamed_command}
@@ -49,7 +49,7 @@ module _ (to : ℕ → ℕ) where
         head = formed.head;
       }
 
-  item_plain : (i : Item) → ItemHasNoFiller i → ItemHasNoFiller (renamed_item to i)
+  item_plain : (i : Item) → ItemHasNoAuxiliary i → ItemHasNoAuxiliary (renamed_item to i)
   item_plain (item.Axiom a) h = renamed_axiom-named to a h
   item_plain (item.Fact f) h = tt
   item_plain (item.Class c) h = tt
@@ -58,16 +58,16 @@ module _ (to : ℕ → ℕ) where
   event_taken : (e : Event) → IsTaken e → IsTaken (renamed_event to e)
   event_taken (event.Commit edits) h = record {
     in_range = tt;
-    no_filler =
-        All-map (λ e. ItemHasNoFiller e.item) (renamed_edit to) edits
-        (All-weaker (λ e. ItemHasNoFiller e.item) (λ e. ItemHasNoFiller (renamed_item to e.item)) (λ e g. item_plain e.item g) edits h.no_filler);
+    no_auxiliary =
+        All-map (λ e. ItemHasNoAuxiliary e.item) (renamed_edit to) edits
+        (All-weaker (λ e. ItemHasNoAuxiliary e.item) (λ e. ItemHasNoAuxiliary (renamed_item to e.item)) (λ e g. item_plain e.item g) edits h.no_auxiliary);
   }
-  event_taken event.Pin h = record { in_range = tt; no_filler = tt }
-  event_taken event.Unpin h = record { in_range = tt; no_filler = tt }
-  event_taken (event.Migrate shard n) h = record { in_range = h.in_range; no_filler = tt }
-  event_taken (event.Sweep shard n) h = record { in_range = h.in_range; no_filler = tt }
-  event_taken event.Reclaim h = record { in_range = tt; no_filler = tt }
-  event_taken (event.Look rows) h = record { in_range = h.in_range; no_filler = tt }
+  event_taken event.Pin h = record { in_range = tt; no_auxiliary = tt }
+  event_taken event.Unpin h = record { in_range = tt; no_auxiliary = tt }
+  event_taken (event.Migrate shard n) h = record { in_range = h.in_range; no_auxiliary = tt }
+  event_taken (event.Sweep shard n) h = record { in_range = h.in_range; no_auxiliary = tt }
+  event_taken event.Reclaim h = record { in_range = tt; no_auxiliary = tt }
+  event_taken (event.Look rows) h = record { in_range = h.in_range; no_auxiliary = tt }
 
   pub command_fit : (c : Command) → IsFit c → IsFit (renamed_command to c)
   command_fit (Put e) h = event_taken e h

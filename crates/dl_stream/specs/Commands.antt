@@ -10,7 +10,7 @@ use Rattle.dl_core.specs.declared.event.Item.TheVariants as item
 use Rattle.dl_core.specs.declared.event.Edit.{Edit}
 use Rattle.dl_core.specs.declared.event.Event.{Event}
 use Rattle.dl_core.specs.declared.event.Event.TheVariants as event
-use Rattle.dl_core.specs.Next.{EventHasNoFiller}
+use Rattle.dl_core.specs.Next.{EventHasNoAuxiliary}
 use Rattle.dl_stream.specs.declared.streams.Command.{Command}
 use Rattle.dl_stream.specs.declared.streams.Command.TheVariants.{Put, Ask}
 use Rattle.dl_stream.specs.Forms.{max_limit, max_rows, max_looked}
@@ -52,7 +52,7 @@ IsInRange (event.Look rows) = rows ≤ max_looked
 -- an event that the store takes, and a query that it answers, with a limit
 pub record IsTaken (e : Event) : Type 0 where
   pub in_range : IsInRange e
-  pub no_filler : EventHasNoFiller e
+  pub no_auxiliary : EventHasNoAuxiliary e
 
 pub record IsAnswered (q : Query) (limit : ℕ) : Type 0 where
   pub well_formed : IsWellFormed q

@@ -8,5 +8,5 @@ pub mod AnswerLemmas
 pub mod MatchLemmas
 pub mod SetLemmas
 pub mod ListLemmas
-pub mod FillerLemmas
+pub mod AuxiliaryLemmas
 pub mod OccurringLemmas

@@ -5,7 +5,7 @@ use Rattle.std.proofs.lemmas.List.{map-append}
 use Rattle.dl_terms.specs.Renamed.{renamed_base, renamed_role, renamed_basic, renamed_part, renamed_axiom, renamed_fact, renamed_term, renamed_atom, renamed_query}
 use Rattle.dl_terms.specs.Occurring.{base_names, role_names, basic_names, part_names, axiom_names, fact_names, term_names, atom_names, query_names}
 use Rattle.dl_terms.specs.declared.role.Base.{Base}
-use Rattle.dl_terms.specs.declared.role.Base.TheVariants.{Named, Filler}
+use Rattle.dl_terms.specs.declared.role.Base.TheVariants.{Named, Auxiliary}
 use Rattle.dl_terms.specs.declared.role.Role.{Role}
 use Rattle.dl_terms.specs.declared.role.Basic.{Basic}
 use Rattle.dl_terms.specs.declared.role.Basic.TheVariants as basic
@@ -33,7 +33,7 @@ module _ (to : ℕ → ℕ) where
 
   bases : (b : Base) → base_names (renamed_base to b) ≡ map to (base_names b)
   bases (Named p) = refl
-  bases (Filler p i c) = refl
+  bases (Auxiliary p i c) = refl
 
   roles : (r : Role) → role_names (renamed_role to r) ≡ map to (role_names r)
   roles r = bases r.base

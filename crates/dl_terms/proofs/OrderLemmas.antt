@@ -10,7 +10,7 @@ use Rattle.std.specs.Cmp.Lexicographic.{slice_cmp, lists_total}
 use Rattle.dl_terms.specs.Roles.{named}
 use Rattle.dl_terms.specs.Order.{flag, base_cmp, role_cmp, basic_cmp, part_cmp, axiom_kind, axiom_cmp, fact_cmp}
 use Rattle.dl_terms.specs.declared.role.Base.{Base}
-use Rattle.dl_terms.specs.declared.role.Base.TheVariants.{Named, Filler}
+use Rattle.dl_terms.specs.declared.role.Base.TheVariants.{Named, Auxiliary}
 use Rattle.dl_terms.specs.declared.role.Role.{Role}
 use Rattle.dl_terms.specs.declared.role.Basic.{Basic}
 use Rattle.dl_terms.specs.declared.role.Basic.TheVariants as basic
@@ -79,21 +79,21 @@ coded_linear {A} {B} {R} {S} code term l back agrees = record {
 
 abbrev base_code : Base → ℕ × (ℕ × (ℕ × ℕ))
 base_code (Named p) = (0, (p, (0, 0)))
-base_code (Filler p i c) = (1, (p, (flag i, c)))
+base_code (Auxiliary p i c) = (1, (p, (flag i, c)))
 
 abbrev base_of : ℕ × (ℕ × (ℕ × ℕ)) → Base
-base_of t = cond (t.0 == 0) (Named t.1.0) (Filler t.1.0 (t.1.1.0 == 1) t.1.1.1)
+base_of t = cond (t.0 == 0) (Named t.1.0) (Auxiliary t.1.0 (t.1.1.0 == 1) t.1.1.1)
 
 base_back : (b : Base) → base_of (base_code b) ≡ b
 base_back (Named p) = refl
-base_back (Filler p true c) = refl
-base_back (Filler p false c) = refl
+base_back (Auxiliary p true c) = refl
+base_back (Auxiliary p false c) = refl
 
 base_agrees : (a b : Base) → base_cmp a b ≡ pair_cmp nat_cmp (pair_cmp nat_cmp (pair_cmp nat_cmp nat_cmp)) (base_code a) (base_code b)
 base_agrees (Named p) (Named q) = sym (then_equal (nat_cmp p q))
-base_agrees (Named p) (Filler q j d) = refl
-base_agrees (Filler p i c) (Named q) = refl
-base_agrees (Filler p i c) (Filler q j d) = refl
+base_agrees (Named p) (Auxiliary q j d) = refl
+base_agrees (Auxiliary p i c) (Named q) = refl
+base_agrees (Auxiliary p i c) (Auxiliary q j d) = refl
 
 pub bases_linear : IsLinear base_cmp
 bases_linear =

@@ -6,7 +6,7 @@ use Rattle.dl_terms.specs.NormalForm.{negatives}
 use Rattle.dl_terms.specs.Structure.{Element}
 use Rattle.dl_terms.specs.Answers.{IsMatch}
 use Rattle.dl_terms.specs.declared.role.Base.{Base}
-use Rattle.dl_terms.specs.declared.role.Base.TheVariants.{Named, Filler}
+use Rattle.dl_terms.specs.declared.role.Base.TheVariants.{Named, Auxiliary}
 use Rattle.dl_terms.specs.declared.role.Role.{Role}
 use Rattle.dl_terms.specs.declared.role.Basic.{Basic}
 use Rattle.dl_terms.specs.declared.role.Basic.TheVariants.{Class, SomeOf}
@@ -20,14 +20,14 @@ use Rattle.dl_terms.specs.declared.query.Atom.{Atom}
 use Rattle.dl_terms.specs.declared.query.Atom.TheVariants.{Is, Link}
 use Rattle.dl_terms.specs.declared.query.Query.{Query}
 
--- r(t, u), with the terms turned for an inverse; no negative has a filler
+-- r(t, u), with the terms turned for an inverse; no negative has an auxiliary role
 abbrev pub turned_atom : Bool → ℕ → Term → Term → Atom
 turned_atom false p t u = Link p t u
 turned_atom true p t u = Link p u t
 
 abbrev pub role_name : Base → ℕ
 role_name (Named p) = p
-role_name (Filler p i c) = p
+role_name (Auxiliary p i c) = p
 
 abbrev pub role_atom : Role → Term → Term → Atom
 role_atom r t u = turned_atom r.inverse (role_name r.base) t u

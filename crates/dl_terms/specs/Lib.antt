@@ -1,6 +1,6 @@
 pub mod Roles
 pub mod NormalForm
-pub mod Fillers
+pub mod Auxiliaries
 pub mod Chain
 pub mod Below
 pub mod Structure

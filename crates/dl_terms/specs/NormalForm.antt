@@ -1,10 +1,10 @@
 -- The normal form of axioms: role inclusions, concept inclusions and negatives, in axiom order (OWL 2 Profiles,
--- OWL 2 QL; the rows with a filler u of r and C, which say "some r in C" by role inclusions, are this project's own).
+-- OWL 2 QL; the rows with an auxiliary role u of r and C, which say "some r in C" by role inclusions, are this project's own).
 use Rattle.std.specs.Prelude.{ℕ, List, [], ◌∷◌, ◌++◌, map}
 use Rattle.std.specs.List.{flat_map, filter_map, zip}
 use Rattle.std.specs.declared.option.Option.{Option}
 use Rattle.std.specs.declared.option.Option.TheVariants.{Some, None}
-use Rattle.dl_terms.specs.Roles.{inverse_of, filler_of}
+use Rattle.dl_terms.specs.Roles.{inverse_of, auxiliary_of}
 use Rattle.dl_terms.specs.declared.role.Role.{Role}
 use Rattle.dl_terms.specs.declared.role.Basic.{Basic}
 use Rattle.dl_terms.specs.declared.role.Basic.TheVariants as basic
@@ -37,8 +37,8 @@ part_rows b part.Thing = []
 part_rows b (part.Class c) = concept_in b (basic.Class c) ∷ []
 part_rows b (part.Any r) = concept_in b (basic.SomeOf r) ∷ []
 part_rows b (part.Fill r c) =
-    concept_in b (basic.SomeOf (filler_of r c)) ∷ role_in (filler_of r c) r
-    ∷ concept_in (basic.SomeOf (inverse_of (filler_of r c))) (basic.Class c) ∷ []
+    concept_in b (basic.SomeOf (auxiliary_of r c)) ∷ role_in (auxiliary_of r c) r
+    ∷ concept_in (basic.SomeOf (inverse_of (auxiliary_of r c))) (basic.Class c) ∷ []
 part_rows b (part.Not d) = never (Basics b d) ∷ []
 
 -- the rows of an axiom, in order

@@ -1,10 +1,10 @@
 -- The names of a term, in the order in which they are written: of predicates, of individuals, and of both parts of a
--- filler. As a set it is the signature of the term (Baader, Horrocks, Lutz, Sattler: An Introduction to Description
+-- auxiliary role. As a set it is the signature of the term (Baader, Horrocks, Lutz, Sattler: An Introduction to Description
 -- Logic, 2017), with its individuals.
 use Rattle.std.specs.Prelude.{ℕ, List, [], ◌∷◌, ◌++◌}
 use Rattle.std.specs.List.{flat_map}
 use Rattle.dl_terms.specs.declared.role.Base.{Base}
-use Rattle.dl_terms.specs.declared.role.Base.TheVariants.{Named, Filler}
+use Rattle.dl_terms.specs.declared.role.Base.TheVariants.{Named, Auxiliary}
 use Rattle.dl_terms.specs.declared.role.Role.{Role}
 use Rattle.dl_terms.specs.declared.role.Basic.{Basic}
 use Rattle.dl_terms.specs.declared.role.Basic.TheVariants as basic
@@ -22,7 +22,7 @@ use Rattle.dl_terms.specs.declared.query.Query.{Query}
 
 abbrev pub base_names : Base → List ℕ
 base_names (Named p) = p ∷ []
-base_names (Filler p i c) = p ∷ c ∷ []
+base_names (Auxiliary p i c) = p ∷ c ∷ []
 
 abbrev pub role_names : Role → List ℕ
 role_names r = base_names r.base

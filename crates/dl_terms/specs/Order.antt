@@ -5,7 +5,7 @@ use Rattle.std.specs.declared.cmp.Ordering.{Ordering}
 use Rattle.std.specs.Ordering.{nat_cmp, ordering_then}
 use Rattle.std.specs.Cmp.Lexicographic.{slice_cmp}
 use Rattle.dl_terms.specs.declared.role.Base.{Base}
-use Rattle.dl_terms.specs.declared.role.Base.TheVariants.{Named, Filler}
+use Rattle.dl_terms.specs.declared.role.Base.TheVariants.{Named, Auxiliary}
 use Rattle.dl_terms.specs.declared.role.Role.{Role}
 use Rattle.dl_terms.specs.declared.role.Basic.{Basic}
 use Rattle.dl_terms.specs.declared.role.Basic.TheVariants as basic
@@ -23,9 +23,9 @@ flag true = 1
 
 abbrev pub base_cmp : Base → Base → Ordering
 base_cmp (Named p) (Named q) = nat_cmp p q
-base_cmp (Named p) (Filler q j d) = nat_cmp 0 1
-base_cmp (Filler p i c) (Named q) = nat_cmp 1 0
-base_cmp (Filler p i c) (Filler q j d) =
+base_cmp (Named p) (Auxiliary q j d) = nat_cmp 0 1
+base_cmp (Auxiliary p i c) (Named q) = nat_cmp 1 0
+base_cmp (Auxiliary p i c) (Auxiliary q j d) =
     ordering_then (nat_cmp p q) (ordering_then (nat_cmp (flag i) (flag j)) (nat_cmp c d))
 
 abbrev pub role_cmp : Role → Role → Ordering

@@ -2,7 +2,7 @@
 -- form of the term. That names are numbers is this project's own.
 use Rattle.std.specs.Prelude.{ℕ, map}
 use Rattle.dl_terms.specs.declared.role.Base.{Base}
-use Rattle.dl_terms.specs.declared.role.Base.TheVariants.{Named, Filler}
+use Rattle.dl_terms.specs.declared.role.Base.TheVariants.{Named, Auxiliary}
 use Rattle.dl_terms.specs.declared.role.Role.{Role}
 use Rattle.dl_terms.specs.declared.role.Basic.{Basic}
 use Rattle.dl_terms.specs.declared.role.Basic.TheVariants as basic
@@ -21,7 +21,7 @@ use Rattle.dl_terms.specs.declared.query.Query.{Query}
 module _ (to : ℕ → ℕ) where
   abbrev pub renamed_base : Base → Base
   renamed_base (Named p) = Named (to p)
-  renamed_base (Filler p i c) = Filler (to p) i (to c)
+  renamed_base (Auxiliary p i c) = Auxiliary (to p) i (to c)
 
   abbrev pub renamed_role : Role → Role
   renamed_role r = record { base = renamed_base r.base; inverse = r.inverse }

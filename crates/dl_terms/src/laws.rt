@@ -1,11 +1,11 @@
-//! Laws of the definitions: of fillers and names, of what is below what, of the canonical structure, and of what is
+//! Laws of the definitions: of auxiliary roles and names, of what is below what, of the canonical structure, and of what is
 //! determined.
 ghost use Rattle.std.specs.Prelude.{◌≡◌, ℕ, ◌↔◌, ◌⊎◌, List, map};
 ghost use Rattle.std.specs.List.{Contains};
 ghost use Rattle.std.specs.declared.option.Option.{Option};
-ghost use Rattle.dl_terms.specs.Roles.{filler_of};
+ghost use Rattle.dl_terms.specs.Roles.{auxiliary_of};
 ghost use Rattle.dl_terms.specs.NormalForm.{Row, axiom_rows};
-ghost use Rattle.dl_terms.specs.Fillers.{RoleHasNoFiller, HasNoFiller, RowHasNoFiller, IsFilled};
+ghost use Rattle.dl_terms.specs.Auxiliaries.{RoleHasNoAuxiliary, HasNoAuxiliary, RowHasNoAuxiliary, IsFilled};
 ghost use Rattle.dl_terms.specs.Renamed.{renamed_axiom, renamed_fact, renamed_query};
 ghost use Rattle.dl_terms.specs.Occurring.{axiom_names, fact_names, query_names};
 ghost use Rattle.dl_terms.specs.Below.{RoleBelow, ConceptBelow};
@@ -53,16 +53,16 @@ pub fn answers_are_determined()
         → IsReply axioms facts nothing q limit b → a ≡ b }
 {}
 
-/// Fillers come into the normal form for "some r in C" alone: each row of an axiom without fillers has none, or is
-/// one of the rows that say that. There is one filler for each role that is none and each class, and other names
+/// Auxiliary roles come into the normal form for "some r in C" alone: each row of an axiom without auxiliary roles has none, or is
+/// one of the rows that say that. There is one auxiliary role for each role that is none and each class, and other names
 /// change nothing of all that.
-pub fn fillers_stand_for_some_in()
-    ensures rows { (a : Axiom) (row : Row) → HasNoFiller a
-        → Contains (axiom_rows a) row → RowHasNoFiller row ⊎ IsFilled row }
-    ensures one_each { (r s : Role) (c d : ℕ) → RoleHasNoFiller r → RoleHasNoFiller s
-        → filler_of r c ≡ filler_of s d → (r ≡ s) × (c ≡ d) }
+pub fn auxiliaries_stand_for_some_in()
+    ensures rows { (a : Axiom) (row : Row) → HasNoAuxiliary a
+        → Contains (axiom_rows a) row → RowHasNoAuxiliary row ⊎ IsFilled row }
+    ensures one_each { (r s : Role) (c d : ℕ) → RoleHasNoAuxiliary r → RoleHasNoAuxiliary s
+        → auxiliary_of r c ≡ auxiliary_of s d → (r ≡ s) × (c ≡ d) }
     ensures renamed { (to : ℕ → ℕ) (a : Axiom)
-        → HasNoFiller a → HasNoFiller (renamed_axiom to a) }
+        → HasNoAuxiliary a → HasNoAuxiliary (renamed_axiom to a) }
 {}
 
 /// The names of a renamed axiom, fact or query are its names, renamed.

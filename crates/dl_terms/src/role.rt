@@ -1,13 +1,13 @@
 use crate::List;
 
-/// A role name: one of the input, or the filler of a role and a class: a role below that role, which leads to
-/// members of that class alone. Fillers are this project's own.
+/// A role name: one of the input, or the auxiliary role of a role and a class: a role below that role, which leads to
+/// members of that class alone. Auxiliary roles are this project's own.
 #[derive(Clone, Copy, PartialEq, Eq, PartialOrd, Ord)]
 pub enum Base {
     /// An object property, by its number.
     Named(u32),
-    /// The filler of the role `role`, or of its inverse, and of the class `class`.
-    Filler {
+    /// The auxiliary role of the role `role`, or of its inverse, and of the class `class`.
+    Auxiliary {
         role: u32,
         inverse: bool,
         class: u32,

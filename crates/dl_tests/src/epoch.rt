@@ -2,7 +2,7 @@
 ghost use Rattle.std.specs.Prelude.{◌≡◌, ◌∷◌, [], length, All, IfOk};
 ghost use Rattle.std.specs.Arc.{arc_value};
 ghost use Rattle.std.specs.List.Sorted.{IsStrictlySortedBy};
-ghost use Rattle.dl_terms.specs.Fillers.{HasNoFiller};
+ghost use Rattle.dl_terms.specs.Auxiliaries.{HasNoAuxiliary};
 ghost use Rattle.dl_terms.specs.Order.{axiom_cmp};
 ghost use Rattle.dl_terms.specs.declared.role.Basic.TheVariants as basic;
 ghost use Rattle.dl_terms.specs.declared.axiom.Part.TheVariants as part;
@@ -62,7 +62,7 @@ fn epoch_of(
     signature: &Signature,
 ) -> Result<Option<Epoch>, NoMemory>
     requires ascending { IsStrictlySortedBy axiom_cmp axioms.now }
-    requires no_filler { All HasNoFiller axioms.now }
+    requires no_auxiliary { All HasNoAuxiliary axioms.now }
     requires known { All (IsAxiomIn signature.now) axioms.now }
 {
     if !fits(alloc, axioms, signature)? {

@@ -54,9 +54,9 @@ const T_INVERSE: Role = Role {
     inverse: true,
 };
 
-/// The filler of P and the class 1, and its inverse.
-const FILLER: Role = Role {
-    base: Base::Filler {
+/// The auxiliary role of P and the class 1, and its inverse.
+const AUXILIARY: Role = Role {
+    base: Base::Auxiliary {
         role: 10,
         inverse: false,
         class: 1,
@@ -64,8 +64,8 @@ const FILLER: Role = Role {
     inverse: false,
 };
 
-const FILLER_INVERSE: Role = Role {
-    base: Base::Filler {
+const AUXILIARY_INVERSE: Role = Role {
+    base: Base::Auxiliary {
         role: 10,
         inverse: false,
         class: 1,
@@ -132,10 +132,10 @@ const ROLES: [(Role, Role, bool); 20] = [
     (T, R, true),
     (R, T, true),
     (T_INVERSE, Q, true),
-    (FILLER, P, true),
-    (FILLER, Q_INVERSE, true),
-    (FILLER_INVERSE, P, false),
-    (P, FILLER, false),
+    (AUXILIARY, P, true),
+    (AUXILIARY, Q_INVERSE, true),
+    (AUXILIARY_INVERSE, P, false),
+    (P, AUXILIARY, false),
     (UNKNOWN, UNKNOWN, true),
     (UNKNOWN, P, false),
     (P, UNKNOWN, false),
@@ -143,13 +143,13 @@ const ROLES: [(Role, Role, bool); 20] = [
 
 /// And among the basic concepts.
 const BASICS: [(Basic, Basic, bool); 14] = [
-    (Basic::Class(0), Basic::SomeOf(FILLER), true),
+    (Basic::Class(0), Basic::SomeOf(AUXILIARY), true),
     (Basic::Class(0), Basic::SomeOf(P), true),
     (Basic::Class(0), Basic::SomeOf(Q_INVERSE), true),
     (Basic::Class(0), Basic::Class(2), false),
     (Basic::Class(0), Basic::Class(1), false),
-    (Basic::SomeOf(FILLER_INVERSE), Basic::Class(1), true),
-    (Basic::SomeOf(FILLER_INVERSE), Basic::Class(2), true),
+    (Basic::SomeOf(AUXILIARY_INVERSE), Basic::Class(1), true),
+    (Basic::SomeOf(AUXILIARY_INVERSE), Basic::Class(2), true),
     (Basic::SomeOf(P_INVERSE), Basic::Class(2), true),
     (Basic::SomeOf(P_INVERSE), Basic::Class(1), false),
     (Basic::SomeOf(P), Basic::Class(2), false),
@@ -190,8 +190,8 @@ const ALL_ROLES: [Role; 12] = [
     S_INVERSE,
     T,
     T_INVERSE,
-    FILLER,
-    FILLER_INVERSE,
+    AUXILIARY,
+    AUXILIARY_INVERSE,
 ];
 
 /// What is below the class 2.
@@ -214,13 +214,13 @@ fn has_roles_below(alloc: Global, hier: &Hier) -> Result<bool, NoMemory> {
     )
 }
 
-/// What is above the filler, and what may follow it.
-fn has_roles_of_the_filler(alloc: Global, hier: &Hier) -> Result<bool, NoMemory> {
-    let above = hier.roles_above(alloc, FILLER)?;
-    let after = hier.followers(alloc, FILLER)?;
+/// What is above the auxiliary role, and what may follow it.
+fn has_roles_of_the_auxiliary(alloc: Global, hier: &Hier) -> Result<bool, NoMemory> {
+    let above = hier.roles_above(alloc, AUXILIARY)?;
+    let after = hier.followers(alloc, AUXILIARY)?;
     Ok(
-        above.as_slice() == [P, Q_INVERSE, FILLER].as_slice()
-            && after.as_slice() == [P_INVERSE, Q, FILLER_INVERSE].as_slice(),
+        above.as_slice() == [P, Q_INVERSE, AUXILIARY].as_slice()
+            && after.as_slice() == [P_INVERSE, Q, AUXILIARY_INVERSE].as_slice(),
     )
 }
 
@@ -232,7 +232,7 @@ fn agrees(alloc: Global, hier: &Hier) -> Result<bool, NoMemory> {
     Ok(
         has_predicates_below(alloc, hier)?
             && has_roles_below(alloc, hier)?
-            && has_roles_of_the_filler(alloc, hier)?,
+            && has_roles_of_the_auxiliary(alloc, hier)?,
     )
 }
 

@@ -1,5 +1,5 @@
 use crate::axioms::{Row, axioms_of};
-use dl_normal::{fillers, fillers_are_of_parts, normal, weight};
+use dl_normal::{auxiliaries, auxiliaries_are_of_parts, normal, weight};
 use dl_terms::{Base, Basic, Negative, NoMemory, Part, Role};
 use std::alloc::Global;
 
@@ -29,9 +29,9 @@ const S_INVERSE: Role = Role {
     inverse: true,
 };
 
-/// The filler of P and C, and its inverse.
-const FILLER: Role = Role {
-    base: Base::Filler {
+/// The auxiliary role of P and C, and its inverse.
+const AUXILIARY: Role = Role {
+    base: Base::Auxiliary {
         role: 3,
         inverse: false,
         class: 1,
@@ -39,8 +39,8 @@ const FILLER: Role = Role {
     inverse: false,
 };
 
-const FILLER_INVERSE: Role = Role {
-    base: Base::Filler {
+const AUXILIARY_INVERSE: Role = Role {
+    base: Base::Auxiliary {
         role: 3,
         inverse: false,
         class: 1,
@@ -78,28 +78,28 @@ const THING: &[Row] = &[Row::SubClass(A, &[Part::Thing])];
 
 /// The rows of these axioms, by the table of the normal form.
 const ROLES: [(Role, Role); 9] = [
-    (FILLER, P),
+    (AUXILIARY, P),
     (P, S_INVERSE),
     (P, S),
     (S, P_INVERSE),
     (P_INVERSE, P),
     (P, S_INVERSE),
     (S_INVERSE, P),
-    (FILLER, P),
+    (AUXILIARY, P),
     (P, P_INVERSE),
 ];
 
 const CONCEPTS: [(Basic, Basic); 10] = [
     (A, C),
     (A, Basic::SomeOf(S)),
-    (A, Basic::SomeOf(FILLER)),
-    (Basic::SomeOf(FILLER_INVERSE), C),
+    (A, Basic::SomeOf(AUXILIARY)),
+    (Basic::SomeOf(AUXILIARY_INVERSE), C),
     (A, Basic::SomeOf(P)),
     (Basic::SomeOf(P), D),
     (D, A),
     (Basic::SomeOf(S), C),
-    (Basic::SomeOf(S_INVERSE), Basic::SomeOf(FILLER)),
-    (Basic::SomeOf(FILLER_INVERSE), C),
+    (Basic::SomeOf(S_INVERSE), Basic::SomeOf(AUXILIARY)),
+    (Basic::SomeOf(AUXILIARY_INVERSE), C),
 ];
 
 const NEGATIVES: [(u32, Negative); 10] = [
@@ -134,15 +134,15 @@ fn rows_of_each_kind(rt: HostRuntime) {
     assert!(rt; matches!(has_rows(rt.alloc()), Ok(true)));
 }
 
-/// Whether the axioms of some rows weigh so much and have so many fillers.
+/// Whether the axioms of some rows weigh so much and have so many auxiliary roles.
 fn weighs(alloc: Global, rows: &[Row], wanted: u64, filled: u64) -> Result<bool, NoMemory> {
     let axioms = axioms_of(alloc, rows)?;
-    Ok(weight(axioms.as_slice()) == wanted && fillers(alloc, axioms.as_slice())? == filled)
+    Ok(weight(axioms.as_slice()) == wanted && auxiliaries(alloc, axioms.as_slice())? == filled)
 }
 
 #[test]
-fn weights_and_fillers(rt: HostRuntime) {
-    fillers_are_of_parts();
+fn weights_and_auxiliaries(rt: HostRuntime) {
+    auxiliaries_are_of_parts();
     assert!(rt; matches!(weighs(rt.alloc(), AXIOMS, 29, 1), Ok(true)));
     assert!(rt; matches!(weighs(rt.alloc(), THING, 1, 0), Ok(true)));
 }

@@ -1,10 +1,10 @@
 // Loads and lists of events as constants, and whether a stream is told what it should be.
 ghost use Rattle.std.specs.Prelude.{All, IfOk};
 ghost use Rattle.std.specs.Bool.{OnTrue};
-ghost use Rattle.dl_terms.specs.Fillers.{RoleHasNoFiller, BasicHasNoFiller, PartHasNoFiller, HasNoFiller};
+ghost use Rattle.dl_terms.specs.Auxiliaries.{RoleHasNoAuxiliary, BasicHasNoAuxiliary, PartHasNoAuxiliary, HasNoAuxiliary};
 ghost use Rattle.dl_epoch.specs.Known.{IsRoleIn, IsConceptIn, IsPartIn, IsAxiomIn};
 ghost use Rattle.dl_core.specs.Loading.{IsFactIn};
-ghost use Rattle.dl_core.specs.Next.{ItemHasNoFiller, EventHasNoFiller};
+ghost use Rattle.dl_core.specs.Next.{ItemHasNoAuxiliary, EventHasNoAuxiliary};
 
 use crate::axioms::list_of;
 use crate::epoch::inclusion;
@@ -16,7 +16,7 @@ use std::alloc::{AllocError, Global};
 
 /// Whether a signature has a basic concept, which is a class.
 fn has_basic(signature: &Signature, basic: &Basic) -> bool
-    ensures no_filler { OnTrue result (BasicHasNoFiller basic.now) }
+    ensures no_auxiliary { OnTrue result (BasicHasNoAuxiliary basic.now) }
     ensures known { OnTrue result (IsConceptIn signature.now basic.now) }
 {
     match basic {
@@ -25,20 +25,20 @@ fn has_basic(signature: &Signature, basic: &Basic) -> bool
     }
 }
 
-/// Whether a signature has a role, which is no filler.
+/// Whether a signature has a role, which is no auxiliary role.
 fn has_role(signature: &Signature, role: &Role) -> bool
-    ensures no_filler { OnTrue result (RoleHasNoFiller role.now) }
+    ensures no_auxiliary { OnTrue result (RoleHasNoAuxiliary role.now) }
     ensures known { OnTrue result (IsRoleIn signature.now role.now) }
 {
     match role.base {
         Base::Named(name) => signature.roles.as_slice().contains(&name),
-        Base::Filler { .. } => false,
+        Base::Auxiliary { .. } => false,
     }
 }
 
 /// Whether a signature has the names of a part, which is a class, or `ObjectSomeValuesFrom` of a role and a class.
 fn has_part(signature: &Signature, part: &Part) -> bool
-    ensures no_filler { OnTrue result (PartHasNoFiller part.now) }
+    ensures no_auxiliary { OnTrue result (PartHasNoAuxiliary part.now) }
     ensures known { OnTrue result (IsPartIn signature.now part.now) }
 {
     match part {
@@ -52,7 +52,7 @@ fn has_part(signature: &Signature, part: &Part) -> bool
 
 /// Whether a signature has the names of an axiom, which says what a class is in, or which classes are the same.
 fn has_axiom(signature: &Signature, stated: &Axiom) -> bool
-    ensures no_filler { OnTrue result (HasNoFiller stated.now) }
+    ensures no_auxiliary { OnTrue result (HasNoAuxiliary stated.now) }
     ensures known { OnTrue result (IsAxiomIn signature.now stated.now) }
 {
     match stated {
@@ -154,7 +154,7 @@ pub(crate) enum Asked {
 
 /// What an edit adds or removes.
 fn item_of(alloc: Global, said: &Said) -> Result<Item, AllocError>
-    ensures { IfOk result ItemHasNoFiller }
+    ensures { IfOk result ItemHasNoAuxiliary }
 {
     Ok(match *said {
         Said::Below(sub, sup) => Item::Axiom(inclusion(alloc, sub, sup)?),
@@ -166,7 +166,7 @@ fn item_of(alloc: Global, said: &Said) -> Result<Item, AllocError>
 
 /// An edit of a commit.
 fn edit_of(alloc: Global, row: &(bool, Said)) -> Result<Edit, AllocError>
-    ensures { IfOk result (λ e. ItemHasNoFiller e.item) }
+    ensures { IfOk result (λ e. ItemHasNoAuxiliary e.item) }
 {
     let item = item_of(alloc, &row.1)?;
     Ok(Edit { add: row.0, item })
@@ -174,7 +174,7 @@ fn edit_of(alloc: Global, row: &(bool, Said)) -> Result<Edit, AllocError>
 
 /// The edits of a commit.
 fn edits_of(alloc: Global, rows: &[(bool, Said)]) -> Result<List<Edit>, NoMemory>
-    ensures { IfOk result (All (λ e. ItemHasNoFiller e.item)) }
+    ensures { IfOk result (All (λ e. ItemHasNoAuxiliary e.item)) }
 {
     let mut edits = List::new(alloc);
     for row in rows {
@@ -186,7 +186,7 @@ fn edits_of(alloc: Global, rows: &[(bool, Said)]) -> Result<List<Edit>, NoMemory
 
 /// The event that a stream asks for.
 fn event_of(alloc: Global, asked: &Asked) -> Result<Event, NoMemory>
-    ensures { IfOk result EventHasNoFiller }
+    ensures { IfOk result EventHasNoAuxiliary }
 {
     Ok(match asked {
         Asked::Commit(rows) => Event::Commit(edits_of(alloc, rows)?),
@@ -273,7 +273,7 @@ pub(crate) fn next_told(
     event: &Event,
     told: &Told,
 ) -> Result<Option<Root>, NoMemory>
-    requires { EventHasNoFiller event.now }
+    requires { EventHasNoAuxiliary event.now }
 {
     if root.book().version > 1000 {
         return Ok(None);

@@ -1,6 +1,6 @@
 // Loads and commits at each limit, and one past it.
 ghost use Rattle.std.specs.Prelude.{IfOk};
-ghost use Rattle.dl_core.specs.Next.{ItemHasNoFiller, EventHasNoFiller};
+ghost use Rattle.dl_core.specs.Next.{ItemHasNoAuxiliary, EventHasNoAuxiliary};
 
 use crate::axioms::list_of;
 use crate::epoch::inclusion;
@@ -14,8 +14,8 @@ const MAX_FACTS: u32 = 4_194_304;
 
 /// The commit of one item that is added.
 fn adding(alloc: Global, item: Item) -> Result<Event, NoMemory>
-    requires { ItemHasNoFiller item }
-    ensures { IfOk result EventHasNoFiller }
+    requires { ItemHasNoAuxiliary item }
+    ensures { IfOk result EventHasNoAuxiliary }
 {
     let mut edits = List::new(alloc);
     edits.push(Edit { add: true, item })?;
@@ -24,7 +24,7 @@ fn adding(alloc: Global, item: Item) -> Result<Event, NoMemory>
 
 /// The root after a commit that adds an item; none where it is told anything else than this.
 fn added(alloc: Global, root: &Root, item: Item, told: &Told) -> Result<Option<Root>, NoMemory>
-    requires { ItemHasNoFiller item }
+    requires { ItemHasNoAuxiliary item }
 {
     let event = adding(alloc, item)?;
     next_told(alloc, root, 1, &event, told)
@@ -44,7 +44,7 @@ fn refuses(
     why: Refusal,
     counts: (u32, usize, u64),
 ) -> Result<bool, NoMemory>
-    requires { ItemHasNoFiller item }
+    requires { ItemHasNoAuxiliary item }
 {
     match added(alloc, root, item, &Told::Refused(why))? {
         Some(next) => Ok(has_counts(&next, counts.0, counts.1, counts.2)),
@@ -204,7 +204,7 @@ fn meets_the_predicates(alloc: Global) -> Result<bool, LoadFault> {
 
 /// The root of so many classes, a role, and the axiom that the class 0 is twice in "some 0 in 0"; none where a
 /// condition of `load` isn't met.
-fn root_with_filler(alloc: Global, classes: u32) -> Result<Option<Root>, LoadFault> {
+fn root_with_auxiliary(alloc: Global, classes: u32) -> Result<Option<Root>, LoadFault> {
     let signature = Signature {
         classes: names(alloc, classes)?,
         roles: names(alloc, 1)?,
@@ -220,9 +220,9 @@ fn root_with_filler(alloc: Global, classes: u32) -> Result<Option<Root>, LoadFau
     root_of(alloc, &[axiom], &signature, &[], 1)
 }
 
-/// Whether the role and the filler count beside 4,094 classes, and beside one more are refused.
-fn counts_fillers(alloc: Global) -> Result<bool, LoadFault> {
-    let Some(root) = root_with_filler(alloc, 4_094)? else {
+/// Whether the role and the auxiliary role count beside 4,094 classes, and beside one more are refused.
+fn counts_auxiliaries(alloc: Global) -> Result<bool, LoadFault> {
+    let Some(root) = root_with_auxiliary(alloc, 4_094)? else {
         return Ok(false);
     };
     let why = Refusal::TooManyPredicates { count: 4_097 };
@@ -230,11 +230,11 @@ fn counts_fillers(alloc: Global) -> Result<bool, LoadFault> {
 }
 
 #[test]
-fn fillers_count_as_predicates(rt: HostRuntime) {
+fn auxiliaries_count_as_predicates(rt: HostRuntime) {
     let alloc = rt.alloc();
-    assert!(rt; matches!(counts_fillers(alloc), Ok(true)));
+    assert!(rt; matches!(counts_auxiliaries(alloc), Ok(true)));
     let fault = LoadFault::TooManyPredicates { count: 4_097 };
-    assert!(rt; is_fault(&root_with_filler(alloc, 4_095), fault));
+    assert!(rt; is_fault(&root_with_auxiliary(alloc, 4_095), fault));
 }
 
 #[test]

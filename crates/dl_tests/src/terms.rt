@@ -20,8 +20,8 @@ const INVERSE: Role = Role {
     inverse: true,
 };
 
-const FILLER: Role = Role {
-    base: Base::Filler {
+const AUXILIARY: Role = Role {
+    base: Base::Auxiliary {
         role: 0,
         inverse: false,
         class: 0,
@@ -37,7 +37,7 @@ const ASCENDING: &[Row] = &[
     Row::SubClass(Basic::Class(2), &[Part::Thing]),
     Row::SubClass(Basic::SomeOf(P), &[Part::Thing]),
     Row::SubClass(Basic::SomeOf(INVERSE), &[Part::Thing]),
-    Row::SubClass(Basic::SomeOf(FILLER), &[Part::Thing]),
+    Row::SubClass(Basic::SomeOf(AUXILIARY), &[Part::Thing]),
     Row::DisjointClasses(&[Basic::Class(1)]),
     Row::SubRole(P, INVERSE),
     Row::Symmetric(P),

@@ -1,7 +1,7 @@
 use Rattle.std.proofs.Common.{◌↔◌, List, sym, subst}
 use Rattle.std.specs.List.{All, Contains}
 use Rattle.std.proofs.lemmas.List.Elements.{All-weaker, All-push, All-contains, All-contains_itself}
-use Rattle.dl_terms.specs.Fillers.{HasNoFiller}
+use Rattle.dl_terms.specs.Auxiliaries.{HasNoAuxiliary}
 use Rattle.dl_epoch.specs.Known.{IsAxiomIn}
 use Rattle.bench_base.proofs.epoch.inclusions.Goals as goal
 
@@ -12,15 +12,15 @@ all_in P set items members all =
 
 pub loop-i-preserved : goal.loop-i-preserved
 loop-i-preserved c =
-    let plain = All-push HasNoFiller c.loop-i.axioms c.in_ok-axiom.axiom c.loop-i.invariant.no_filler c.in_ok-axiom.ensures.no_filler in
+    let plain = All-push HasNoAuxiliary c.loop-i.axioms c.in_ok-axiom.axiom c.loop-i.invariant.no_auxiliary c.in_ok-axiom.ensures.no_auxiliary in
     let known = All-push (IsAxiomIn c.args.signature.now) c.loop-i.axioms c.in_ok-axiom.axiom c.loop-i.invariant.known c.in_ok-axiom.ensures.known in record {
-      no_filler = subst (All HasNoFiller) (sym c.in_ok-push.ensures.ok) plain;
+      no_auxiliary = subst (All HasNoAuxiliary) (sym c.in_ok-push.ensures.ok) plain;
       known = subst (All (IsAxiomIn c.args.signature.now)) (sym c.in_ok-push.ensures.ok) known;
     }
 
-pub returns-clause-no_filler : goal.returns-clause-no_filler
-returns-clause-no_filler c =
-    all_in HasNoFiller c.axiom_set.result c.loop-i.axioms c.axiom_set.ensures.members c.loop-i.invariant.no_filler
+pub returns-clause-no_auxiliary : goal.returns-clause-no_auxiliary
+returns-clause-no_auxiliary c =
+    all_in HasNoAuxiliary c.axiom_set.result c.loop-i.axioms c.axiom_set.ensures.members c.loop-i.invariant.no_auxiliary
 
 pub returns-clause-known : goal.returns-clause-known
 returns-clause-known c =

@@ -1,6 +1,6 @@
 use Rattle.std.proofs.Common.{ℕ, ◌+◌, ◌≤◌, ◌^◌, List, length, Fits, w32, get_or, arith}
 use Rattle.std.specs.List.Sorted.{IsStrictlyIncreasing}
-use Rattle.dl_core.proofs.FillerLemmas.{few_below}
+use Rattle.dl_core.proofs.AuxiliaryLemmas.{few_below}
 use Rattle.dl_core.proofs.counts.name_count.Goals as goal
 
 both : (classes roles : List ℕ) → IsStrictlyIncreasing classes → IsStrictlyIncreasing roles

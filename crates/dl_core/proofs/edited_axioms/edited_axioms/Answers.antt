@@ -1,6 +1,6 @@
 use Rattle.std.proofs.Common.{◌≡◌, false, sym, subst, All, IfOk, rules}
 use Rattle.std.specs.List.{list_any}
-use Rattle.dl_terms.specs.Fillers.{HasNoFiller}
+use Rattle.dl_terms.specs.Auxiliaries.{HasNoAuxiliary}
 use Rattle.dl_core.specs.Decided.{is_axiom}
 use Rattle.dl_core.specs.Edits.{edited_axioms}
 use Rattle.dl_core.proofs.AxiomEditLemmas.{edited_none}
@@ -13,7 +13,7 @@ returns-then-not-has_axiom-clause-edited c =
     subst (λ axioms. IfOk c.copied_axioms.result (λ after. after ≡ axioms)) (sym (edited_none c.args.edits.now c.args.axioms.now none))
     c.copied_axioms.ensures
 
-pub returns-clause-no_filler : goal.returns-clause-no_filler
-returns-clause-no_filler c all none =
+pub returns-clause-no_auxiliary : goal.returns-clause-no_auxiliary
+returns-clause-no_auxiliary c all none =
     let is : c.of.result ≡ edited_axioms c.args.edits.now c.args.axioms.now = search rules in
-    subst (All HasNoFiller) (sym is) (edited_axioms-plain c.args.edits.now c.args.axioms.now none all)
+    subst (All HasNoAuxiliary) (sym is) (edited_axioms-plain c.args.edits.now c.args.axioms.now none all)

@@ -1,5 +1,5 @@
 use Rattle.std.proofs.Common.{All, MatchResult, sym, subst}
-use Rattle.dl_terms.specs.Fillers.{HasNoFiller}
+use Rattle.dl_terms.specs.Auxiliaries.{HasNoAuxiliary}
 use Rattle.dl_epoch.specs.Known.{IsAxiomIn}
 use Rattle.dl_core.specs.History.{Load}
 use Rattle.dl_core.specs.Loading.{IsLoadOf, IsLoaded, IsLoadFault}
@@ -7,10 +7,10 @@ use Rattle.dl_core.proofs.SetOfLemmas.{set_all}
 use Rattle.dl_core.proofs.LoadLemmas.{axioms_in_set, match_ok, match_err}
 use Rattle.dl_core.proofs.first_root.load.Goals as goal
 
-pub load_axioms-requires-2-clause-no_filler : goal.load_axioms-requires-2-clause-no_filler
-load_axioms-requires-2-clause-no_filler c =
-    subst (All HasNoFiller) (sym c.as_slice.ensures)
-    (set_all HasNoFiller c.in_ok-set.set c.args.axioms.now c.in_ok-set.ensures c.requires.no_filler)
+pub load_axioms-requires-2-clause-no_auxiliary : goal.load_axioms-requires-2-clause-no_auxiliary
+load_axioms-requires-2-clause-no_auxiliary c =
+    subst (All HasNoAuxiliary) (sym c.as_slice.ensures)
+    (set_all HasNoAuxiliary c.in_ok-set.set c.args.axioms.now c.in_ok-set.ensures c.requires.no_auxiliary)
 
 pub load_axioms-requires-2-clause-axioms : goal.load_axioms-requires-2-clause-axioms
 load_axioms-requires-2-clause-axioms c =

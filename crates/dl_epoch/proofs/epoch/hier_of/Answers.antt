@@ -16,7 +16,7 @@ build-requires-clause-names c = has_names c.args.signature.now c.args.axioms.now
 
 pub build-requires-clause-few : goal.build-requires-clause-few
 build-requires-clause-few c =
-    are_few c.args.signature.now c.args.axioms.now c.in_ok-rows.rows c.requires.no_filler c.requires.few c.in_ok-rows.ensures.rows
+    are_few c.args.signature.now c.args.axioms.now c.in_ok-rows.rows c.requires.no_auxiliary c.requires.few c.in_ok-rows.ensures.rows
 
 pub returns-clause-classes : goal.returns-clause-classes
 returns-clause-classes c =

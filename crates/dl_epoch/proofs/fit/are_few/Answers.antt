@@ -5,6 +5,6 @@ use Rattle.dl_epoch.proofs.fit.are_few.Goals as goal
 
 pub returns : goal.returns
 returns c =
-    few_told c.args.signature.now c.args.axioms.now c.in_ok-fillers.fillers c.in_ok-fillers.ensures _
-    (few_counted _ _ _ c.len-classes.result c.len-roles.result c.in_ok-fillers.fillers c.saturating_add.result
+    few_told c.args.signature.now c.args.axioms.now c.in_ok-auxiliaries.auxiliaries c.in_ok-auxiliaries.ensures _
+    (few_counted _ _ _ c.len-classes.result c.len-roles.result c.in_ok-auxiliaries.auxiliaries c.saturating_add.result
     c.saturating_add-2.result c.len-classes.ensures c.len-roles.ensures refl c.saturating_add.ensures c.saturating_add-2.ensures)

@@ -45,8 +45,8 @@ returns-in-Ok-clause-grows c =
     tokens d h. axiom_places c.args.names.now tokens d c.lone.new.names h)
     c.lone.result c.lone.ensures
 
-pub returns-in-Ok-clause-no_fillers : goal.returns-in-Ok-clause-no_fillers
-returns-in-Ok-clause-no_fillers c =
+pub returns-in-Ok-clause-no_auxiliaries : goal.returns-in-Ok-clause-no_auxiliaries
+returns-in-Ok-clause-no_auxiliaries c =
     told_plain c.args.bytes.now lone_axiom c.args.names.now c.in-Ok.at c.in-Ok.ensures.begins c.lone.new.names (λ
     d h. axioms_plain c.lone.new.names d.axioms (lone_axiom_in c.args.bytes.now c.args.names.now c.lone.new.names d h))
     c.lone.result c.lone.ensures

@@ -45,8 +45,8 @@ returns-in-Ok-clause-grows c =
     tokens d h. ontology_places c.args.names.now tokens d c.whole.new.names h)
     c.whole.result c.whole.ensures
 
-pub returns-in-Ok-clause-no_fillers : goal.returns-in-Ok-clause-no_fillers
-returns-in-Ok-clause-no_fillers c =
+pub returns-in-Ok-clause-no_auxiliaries : goal.returns-in-Ok-clause-no_auxiliaries
+returns-in-Ok-clause-no_auxiliaries c =
     told_plain c.args.bytes.now prologue c.args.names.now c.in-Ok.at c.in-Ok.ensures.begins c.whole.new.names (λ
     d h. axioms_plain c.whole.new.names d.axioms (ontology_in c.args.bytes.now c.args.names.now c.whole.new.names d h))
     c.whole.result c.whole.ensures

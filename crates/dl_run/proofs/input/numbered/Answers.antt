@@ -55,7 +55,7 @@ returns-clause-made c =
     let declared = signature_from c.as_slice.ensures c.as_slice-2.ensures c.ranked.ensures.classes c.ranked.ensures.roles c.in_ok-signature.ensures in
     record {
       ascending = (rw c.ranked.ensures.axioms at c.axiom_set-axioms.ensures).ascending;
-      no_fillers = plain_renamed to c.args.document.axioms axioms c.requires.no_fillers (rw c.ranked.ensures.axioms at c.axiom_set-axioms.ensures);
+      no_auxiliaries = plain_renamed to c.args.document.axioms axioms c.requires.no_auxiliaries (rw c.ranked.ensures.axioms at c.axiom_set-axioms.ensures);
       known = axioms_known axioms facts (map to c.args.document.classes) (map to c.args.document.roles) c.in_ok-signature.signature declared;
       signature = ascends axioms facts (map to c.args.document.classes) (map to c.args.document.roles) c.in_ok-signature.signature declared;
       facts_ascending = (set_of_joined to c.args.triples.facts c.args.document.facts _ _ c.in_ok-both.both facts c.ranked-2.ensures.facts c.ranked.ensures.facts c.in_ok-both.ensures c.fact_set-facts.ensures).ascending;

@@ -7,7 +7,7 @@ use Rattle.std.proofs.lemmas.List.Elements.{All-nil, All-cons}
 use Rattle.std.proofs.lemmas.List.Sorted.{IsPermutation-refl, IsPermutation-append_comm, sum_by-IsPermutation, length_permutation}
 use Rattle.std.proofs.lemmas.List.FromFn.{length-enumerate_from}
 use Rattle.dl_core.specs.History.{Entry}
-use Rattle.dl_core.specs.Next.{EventHasNoFiller, ItemHasNoFiller}
+use Rattle.dl_core.specs.Next.{EventHasNoAuxiliary, ItemHasNoAuxiliary}
 use Rattle.dl_core.specs.declared.event.Event.{Event}
 use Rattle.dl_core.specs.declared.event.Event.TheVariants.{Pin, Unpin, Migrate, Sweep}
 use Rattle.dl_core.specs.declared.reply.Refusal.TheVariants.{PinOpen, NoPin, NoShard}
@@ -20,8 +20,8 @@ use Rattle.dl_stream.proofs.worked_examples.transcript_examples.Goals as goal
 abbrev entry : ℕ → Event → Reply → Entry
 entry stream event reply = record { stream = stream; event = event; reply = reply }
 
-adds_no_filler : EventHasNoFiller adds_a
-adds_no_filler = All-cons (λ e. ItemHasNoFiller e.item) _ [] tt (All-nil (λ e. ItemHasNoFiller e.item))
+adds_no_auxiliary : EventHasNoAuxiliary adds_a
+adds_no_auxiliary = All-cons (λ e. ItemHasNoAuxiliary e.item) _ [] tt (All-nil (λ e. ItemHasNoAuxiliary e.item))
 
 all_of_two : {X : Type 0} (P : X → Type 0) (x y : X) → P x → P y → All P (x ∷ y ∷ [])
 all_of_two P x y one two = All-cons P x (y ∷ []) one (All-cons P y [] two (All-nil P))
@@ -33,7 +33,7 @@ one_place place k h = absurd (omega (arith, h))
 pub returns-clause-commit_first : goal.returns-clause-commit_first
 returns-clause-commit_first c = let history = entry 1 adds_a (Committed 2 1) ∷ entry 2 Pin (Pinned 2) ∷ [] in record {
   history = history;
-  legal = ((lit≤ tt, adds_no_filler), refl, ((lit≤ tt, tt), refl, tt));
+  legal = ((lit≤ tt, adds_no_auxiliary), refl, ((lit≤ tt, tt), refl, tt));
   counted = refl;
   placed = IsPermutation-refl (all_entries commit_first);
   rising = all_of_two HasRisingPlaces _ _ (one_place 1) (one_place 2);
@@ -43,7 +43,7 @@ returns-clause-commit_first c = let history = entry 1 adds_a (Committed 2 1) ∷
 pub returns-clause-pin_first : goal.returns-clause-pin_first
 returns-clause-pin_first c = let history = entry 2 Pin (Pinned 1) ∷ entry 1 adds_a (Committed 2 1) ∷ [] in record {
   history = history;
-  legal = ((lit≤ tt, tt), refl, ((lit≤ tt, adds_no_filler), refl, tt));
+  legal = ((lit≤ tt, tt), refl, ((lit≤ tt, adds_no_auxiliary), refl, tt));
   counted = refl;
   placed = IsPermutation-append_comm ((2, entry 1 adds_a (Committed 2 1)) ∷ []) ((1, entry 2 Pin (Pinned 1)) ∷ []);
   rising = all_of_two HasRisingPlaces _ _ (one_place 2) (one_place 1);

@@ -1,7 +1,7 @@
 use Rattle.std.proofs.Common.{◌≡◌, Contains, ap, sym, subst, ◌∙◌}
-use Rattle.dl_hier.specs.Predicates.{Predicates, AreInOrder, IsFiller, bases}
+use Rattle.dl_hier.specs.Predicates.{Predicates, AreInOrder, IsAuxiliary, bases}
 use Rattle.dl_hier.specs.Nodes.{StandsAt}
-use Rattle.dl_hier.proofs.PredicateLemmas.{found, property-known, filler-known, base-at_property}
+use Rattle.dl_hier.proofs.PredicateLemmas.{found, property-known, auxiliary-known, base-at_property}
 use Rattle.dl_hier.proofs.nodes.Nodes.base.Goals as goal
 
 pub returns-in-Named-clause-index : goal.returns-in-Named-clause-index
@@ -17,5 +17,5 @@ returns-in-Named-clause-index c =
 pub returns-in-None-clause-index : goal.returns-in-None-clause-index
 returns-in-None-clause-index c =
     let p = c.args.self.now in
-    let same : c.as_slice-in-Filler.result.now ≡ p.fillers = c.as_slice-in-Filler.ensures ∙ ap (λ (q : Predicates). q.fillers) c.self.view_is in
-    λ h. c.in-None.ensures (subst (λ l. Contains l c.args.base) (sym same) (filler-known p c.args.base (subst IsFiller (sym c.in-Filler.is) tt) h))
+    let same : c.as_slice-in-Auxiliary.result.now ≡ p.auxiliaries = c.as_slice-in-Auxiliary.ensures ∙ ap (λ (q : Predicates). q.auxiliaries) c.self.view_is in
+    λ h. c.in-None.ensures (subst (λ l. Contains l c.args.base) (sym same) (auxiliary-known p c.args.base (subst IsAuxiliary (sym c.in-Auxiliary.is) tt) h))

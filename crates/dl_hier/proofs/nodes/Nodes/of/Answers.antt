@@ -13,24 +13,24 @@ guessed-requires c =
     AreInOrder-sets c.args.signature.now c.args.normal.now _ c.requires
     (ArePredicatesOf-sets c.args.signature.now c.args.normal.now _ _ _ c.set_of.result c.set_of-2.result c.set_of-3.result
     (c.of-classes.ensures ∙ c.in_ok-from_slice.ensures.items ∙ c.as_slice.ensures)
-    (c.of-properties.ensures ∙ c.in_ok-from_slice-2.ensures.items ∙ c.as_slice-2.ensures) c.in_ok-fillers.ensures c.set_of.ensures c.set_of-2.ensures
+    (c.of-properties.ensures ∙ c.in_ok-from_slice-2.ensures.items ∙ c.as_slice-2.ensures) c.in_ok-auxiliaries.ensures c.set_of.ensures c.set_of-2.ensures
     c.set_of-3.ensures)
 
 pub returns-clause-predicates : goal.returns-clause-predicates
 returns-clause-predicates c =
-    let p : Predicates = record { classes = c.set_of.result; properties = c.set_of-2.result; fillers = c.set_of-3.result } in
+    let p : Predicates = record { classes = c.set_of.result; properties = c.set_of-2.result; auxiliaries = c.set_of-3.result } in
     IfOk-at (ArePredicatesOf c.args.signature.now c.args.normal.now) p c.guessed.result c.guessed.ensures
     (ArePredicatesOf-sets c.args.signature.now c.args.normal.now _ _ _ c.set_of.result c.set_of-2.result c.set_of-3.result
     (c.of-classes.ensures ∙ c.in_ok-from_slice.ensures.items ∙ c.as_slice.ensures)
-    (c.of-properties.ensures ∙ c.in_ok-from_slice-2.ensures.items ∙ c.as_slice-2.ensures) c.in_ok-fillers.ensures c.set_of.ensures c.set_of-2.ensures
+    (c.of-properties.ensures ∙ c.in_ok-from_slice-2.ensures.items ∙ c.as_slice-2.ensures) c.in_ok-auxiliaries.ensures c.set_of.ensures c.set_of-2.ensures
     c.set_of-3.ensures)
 
 pub returns-clause-order : goal.returns-clause-order
 returns-clause-order c =
-    let p : Predicates = record { classes = c.set_of.result; properties = c.set_of-2.result; fillers = c.set_of-3.result } in
+    let p : Predicates = record { classes = c.set_of.result; properties = c.set_of-2.result; auxiliaries = c.set_of-3.result } in
     IfOk-at AreInOrder p c.guessed.result c.guessed.ensures
     (AreInOrder-sets c.args.signature.now c.args.normal.now _ c.requires
     (ArePredicatesOf-sets c.args.signature.now c.args.normal.now _ _ _ c.set_of.result c.set_of-2.result c.set_of-3.result
     (c.of-classes.ensures ∙ c.in_ok-from_slice.ensures.items ∙ c.as_slice.ensures)
-    (c.of-properties.ensures ∙ c.in_ok-from_slice-2.ensures.items ∙ c.as_slice-2.ensures) c.in_ok-fillers.ensures c.set_of.ensures c.set_of-2.ensures
+    (c.of-properties.ensures ∙ c.in_ok-from_slice-2.ensures.items ∙ c.as_slice-2.ensures) c.in_ok-auxiliaries.ensures c.set_of.ensures c.set_of-2.ensures
     c.set_of-3.ensures))

@@ -7,5 +7,5 @@ pub returns : goal.returns
 returns c =
     let p = c.args.self.now in
     let properties : c.len.result ≡ length p.properties = c.len.ensures ∙ ap (λ (q : Predicates). length q.properties) c.self.view_is in
-    let fillers : c.len-2.result ≡ length p.fillers = c.len-2.ensures ∙ ap (λ (q : Predicates). length q.fillers) c.self.view_is in
-    omega (arith, length-roles p, properties, fillers)
+    let auxiliaries : c.len-2.result ≡ length p.auxiliaries = c.len-2.ensures ∙ ap (λ (q : Predicates). length q.auxiliaries) c.self.view_is in
+    omega (arith, length-roles p, properties, auxiliaries)

@@ -1,13 +1,13 @@
--- Which rows of the normal form have fillers, and what a filler stands for.
+-- Which rows of the normal form have auxiliary roles, and what an auxiliary role stands for.
 use Rattle.std.proofs.Common.{◌≡◌, ℕ, ◌⊎◌, Bool, List, [], ◌∷◌, ◌++◌, map, ap, inl, inr}
 use Rattle.std.specs.List.{All, Contains, flat_map, zip}
 use Rattle.std.proofs.lemmas.List.Elements.{All-nil, All-cons, All-head, All-tail, All-append, All-push, All-map, All-weaker, All-contains, All-contains_itself}
-use Rattle.dl_terms.specs.Roles.{inverse_of, filler_base, filler_of}
+use Rattle.dl_terms.specs.Roles.{inverse_of, auxiliary_base, auxiliary_of}
 use Rattle.dl_terms.specs.NormalForm.{Row, role_in, concept_in, never, ring, pairs, part_rows, axiom_rows}
-use Rattle.dl_terms.specs.Fillers.{IsNamed, RoleHasNoFiller, BasicHasNoFiller, PartHasNoFiller, HasNoFiller, RowHasNoFiller, IsFilled}
+use Rattle.dl_terms.specs.Auxiliaries.{IsNamed, RoleHasNoAuxiliary, BasicHasNoAuxiliary, PartHasNoAuxiliary, HasNoAuxiliary, RowHasNoAuxiliary, IsFilled}
 use Rattle.dl_terms.specs.Renamed.{renamed_base, renamed_role, renamed_basic, renamed_part, renamed_axiom}
 use Rattle.dl_terms.specs.declared.role.Base.{Base}
-use Rattle.dl_terms.specs.declared.role.Base.TheVariants.{Named, Filler}
+use Rattle.dl_terms.specs.declared.role.Base.TheVariants.{Named, Auxiliary}
 use Rattle.dl_terms.specs.declared.role.Role.{Role}
 use Rattle.dl_terms.specs.declared.role.Basic.{Basic}
 use Rattle.dl_terms.specs.declared.role.Basic.TheVariants as basic
@@ -48,14 +48,14 @@ All-pairs Q (x ∷ xs) all =
 
 -- ---- rows
 
--- a row has no filler, or says "some r in C"
+-- a row has no auxiliary role, or says "some r in C"
 abbrev IsAllowed : Row → Type 0
-IsAllowed row = RowHasNoFiller row ⊎ IsFilled row
+IsAllowed row = RowHasNoAuxiliary row ⊎ IsFilled row
 
-one_row : (row : Row) → RowHasNoFiller row → All IsAllowed (row ∷ [])
+one_row : (row : Row) → RowHasNoAuxiliary row → All IsAllowed (row ∷ [])
 one_row row h = All-cons IsAllowed row [] (inl h) (All-nil IsAllowed)
 
-part_rows-allowed : (b : Basic) → BasicHasNoFiller b → (p : Part) → PartHasNoFiller p → All IsAllowed (part_rows b p)
+part_rows-allowed : (b : Basic) → BasicHasNoAuxiliary b → (p : Part) → PartHasNoAuxiliary p → All IsAllowed (part_rows b p)
 part_rows-allowed b h part.Thing k = All-nil IsAllowed
 part_rows-allowed b h (part.Class c) k = one_row (concept_in b (basic.Class c)) (h, tt)
 part_rows-allowed b h (part.Any r) k = one_row (concept_in b (basic.SomeOf r)) (h, k)
@@ -65,25 +65,25 @@ part_rows-allowed b h (part.Fill r c) k =
     (λ row here. inr (record { basic = b; role = r; class = c; basic_named = h; role_named = k; is_row = here })) rows (All-contains_itself rows)
 part_rows-allowed b h (part.Not d) k = one_row (never (Basics b d)) (h, k)
 
-each_allowed : {A : Type 0} (Q : A → Type 0) (row : A × A → Row) → ((p : A × A) → Both Q p → RowHasNoFiller (row p)) → (ps : List (A × A))
+each_allowed : {A : Type 0} (Q : A → Type 0) (row : A × A → Row) → ((p : A × A) → Both Q p → RowHasNoAuxiliary (row p)) → (ps : List (A × A))
     → All (Both Q) ps → All IsAllowed (map row ps)
 each_allowed Q row each ps all =
     All-map IsAllowed row ps (All-weaker (Both Q) (λ p. IsAllowed (row p)) (λ p q. inl (each p q)) ps all)
 
-parts_allowed : (b : Basic) → BasicHasNoFiller b → (ps : List Part) → All PartHasNoFiller ps → All IsAllowed (flat_map (part_rows b) ps)
-parts_allowed b h = All-flat_map IsAllowed PartHasNoFiller (part_rows b) (part_rows-allowed b h)
+parts_allowed : (b : Basic) → BasicHasNoAuxiliary b → (ps : List Part) → All PartHasNoAuxiliary ps → All IsAllowed (flat_map (part_rows b) ps)
+parts_allowed b h = All-flat_map IsAllowed PartHasNoAuxiliary (part_rows b) (part_rows-allowed b h)
 
-axiom_rows-allowed : (a : Axiom) → HasNoFiller a → All IsAllowed (axiom_rows a)
+axiom_rows-allowed : (a : Axiom) → HasNoAuxiliary a → All IsAllowed (axiom_rows a)
 axiom_rows-allowed (SubClass b ps) h = parts_allowed b h.0 ps h.1
 axiom_rows-allowed (EquivalentClasses bs) h =
-    each_allowed BasicHasNoFiller (λ p. concept_in p.0 p.1) (λ p q. q) (ring bs) (All-ring BasicHasNoFiller bs h)
+    each_allowed BasicHasNoAuxiliary (λ p. concept_in p.0 p.1) (λ p q. q) (ring bs) (All-ring BasicHasNoAuxiliary bs h)
 axiom_rows-allowed (DisjointClasses bs) h =
-    each_allowed BasicHasNoFiller (λ p. never (Basics p.0 p.1)) (λ p q. q) (pairs bs) (All-pairs BasicHasNoFiller bs h)
+    each_allowed BasicHasNoAuxiliary (λ p. never (Basics p.0 p.1)) (λ p q. q) (pairs bs) (All-pairs BasicHasNoAuxiliary bs h)
 axiom_rows-allowed (SubRole r s) h = one_row (role_in r s) h
 axiom_rows-allowed (EquivalentRoles rs) h =
-    each_allowed RoleHasNoFiller (λ p. role_in p.0 p.1) (λ p q. q) (ring rs) (All-ring RoleHasNoFiller rs h)
+    each_allowed RoleHasNoAuxiliary (λ p. role_in p.0 p.1) (λ p q. q) (ring rs) (All-ring RoleHasNoAuxiliary rs h)
 axiom_rows-allowed (DisjointRoles rs) h =
-    each_allowed RoleHasNoFiller (λ p. never (Roles p.0 p.1)) (λ p q. q) (pairs rs) (All-pairs RoleHasNoFiller rs h)
+    each_allowed RoleHasNoAuxiliary (λ p. never (Roles p.0 p.1)) (λ p q. q) (pairs rs) (All-pairs RoleHasNoAuxiliary rs h)
 axiom_rows-allowed (InverseRoles r s) h =
     All-cons IsAllowed (role_in r (inverse_of s)) (role_in (inverse_of s) r ∷ []) (inl h) (one_row (role_in (inverse_of s) r) (h.1, h.0))
 axiom_rows-allowed (Domain r ps) h = parts_allowed (basic.SomeOf r) h.0 ps h.1
@@ -92,20 +92,20 @@ axiom_rows-allowed (Symmetric r) h = one_row (role_in r (inverse_of r)) (h, h)
 axiom_rows-allowed (Asymmetric r) h = one_row (never (Roles r (inverse_of r))) (h, h)
 axiom_rows-allowed (Irreflexive r) h = one_row (never (NoLoop r)) h
 
-pub row_allowed : (a : Axiom) (row : Row) → HasNoFiller a → Contains (axiom_rows a) row → RowHasNoFiller row ⊎ IsFilled row
+pub row_allowed : (a : Axiom) (row : Row) → HasNoAuxiliary a → Contains (axiom_rows a) row → RowHasNoAuxiliary row ⊎ IsFilled row
 row_allowed a row h c = All-contains IsAllowed (axiom_rows a) row (axiom_rows-allowed a h) c
 
--- ---- one filler for each role and class
+-- ---- one auxiliary role for each role and class
 
-filler_base-injective : (a b : Base) (i j : Bool) (c d : ℕ) → IsNamed a → IsNamed b → filler_base a i c ≡ filler_base b j d
+auxiliary_base-injective : (a b : Base) (i j : Bool) (c d : ℕ) → IsNamed a → IsNamed b → auxiliary_base a i c ≡ auxiliary_base b j d
     → (a ≡ b) × (i ≡ j) × (c ≡ d)
-filler_base-injective (Named p) (Named q) i j c d h k e = (cc, cc, cc)
-filler_base-injective (Named p) (Filler q j' d') i j c d h k e = absurd k
-filler_base-injective (Filler p i' c') b i j c d h k e = absurd h
+auxiliary_base-injective (Named p) (Named q) i j c d h k e = (cc, cc, cc)
+auxiliary_base-injective (Named p) (Auxiliary q j' d') i j c d h k e = absurd k
+auxiliary_base-injective (Auxiliary p i' c') b i j c d h k e = absurd h
 
-pub filler_of-injective : (r s : Role) (c d : ℕ) → RoleHasNoFiller r → RoleHasNoFiller s → filler_of r c ≡ filler_of s d → (r ≡ s) × (c ≡ d)
-filler_of-injective r s c d h k e =
-    let same = filler_base-injective r.base s.base r.inverse s.inverse c d h k (ap (λ t. t.base) e) in
+pub auxiliary_of-injective : (r s : Role) (c d : ℕ) → RoleHasNoAuxiliary r → RoleHasNoAuxiliary s → auxiliary_of r c ≡ auxiliary_of s d → (r ≡ s) × (c ≡ d)
+auxiliary_of-injective r s c d h k e =
+    let same = auxiliary_base-injective r.base s.base r.inverse s.inverse c d h k (ap (λ t. t.base) e) in
     (λ i. record { base = same.0 i; inverse = same.1 i }, same.2)
 
 -- ---- other names
@@ -113,16 +113,16 @@ filler_of-injective r s c d h k e =
 module _ (to : ℕ → ℕ) where
   renamed_base-named : (b : Base) → IsNamed b → IsNamed (renamed_base to b)
   renamed_base-named (Named p) h = tt
-  renamed_base-named (Filler p i c) h = absurd h
+  renamed_base-named (Auxiliary p i c) h = absurd h
 
-  renamed_role-named : (r : Role) → RoleHasNoFiller r → RoleHasNoFiller (renamed_role to r)
+  renamed_role-named : (r : Role) → RoleHasNoAuxiliary r → RoleHasNoAuxiliary (renamed_role to r)
   renamed_role-named r h = renamed_base-named r.base h
 
-  renamed_basic-named : (b : Basic) → BasicHasNoFiller b → BasicHasNoFiller (renamed_basic to b)
+  renamed_basic-named : (b : Basic) → BasicHasNoAuxiliary b → BasicHasNoAuxiliary (renamed_basic to b)
   renamed_basic-named (basic.Class c) h = tt
   renamed_basic-named (basic.SomeOf r) h = renamed_role-named r h
 
-  renamed_part-named : (p : Part) → PartHasNoFiller p → PartHasNoFiller (renamed_part to p)
+  renamed_part-named : (p : Part) → PartHasNoAuxiliary p → PartHasNoAuxiliary (renamed_part to p)
   renamed_part-named part.Thing h = tt
   renamed_part-named (part.Class c) h = tt
   renamed_part-named (part.Any r) h = renamed_role-named r h
@@ -132,19 +132,19 @@ module _ (to : ℕ → ℕ) where
   each_named : {A : Type 0} (Q : A → Type 0) (renamed : A → A) → ((x : A) → Q x → Q (renamed x)) → (xs : List A) → All Q xs → All Q (map renamed xs)
   each_named Q renamed each xs all = All-map Q renamed xs (All-weaker Q (λ x. Q (renamed x)) each xs all)
 
-  pub renamed_axiom-named : (a : Axiom) → HasNoFiller a → HasNoFiller (renamed_axiom to a)
+  pub renamed_axiom-named : (a : Axiom) → HasNoAuxiliary a → HasNoAuxiliary (renamed_axiom to a)
   renamed_axiom-named (SubClass b ps) h =
-      (renamed_basic-named b h.0, each_named PartHasNoFiller (renamed_part to) renamed_part-named ps h.1)
-  renamed_axiom-named (EquivalentClasses bs) h = each_named BasicHasNoFiller (renamed_basic to) renamed_basic-named bs h
-  renamed_axiom-named (DisjointClasses bs) h = each_named BasicHasNoFiller (renamed_basic to) renamed_basic-named bs h
+      (renamed_basic-named b h.0, each_named PartHasNoAuxiliary (renamed_part to) renamed_part-named ps h.1)
+  renamed_axiom-named (EquivalentClasses bs) h = each_named BasicHasNoAuxiliary (renamed_basic to) renamed_basic-named bs h
+  renamed_axiom-named (DisjointClasses bs) h = each_named BasicHasNoAuxiliary (renamed_basic to) renamed_basic-named bs h
   renamed_axiom-named (SubRole r s) h = (renamed_role-named r h.0, renamed_role-named s h.1)
-  renamed_axiom-named (EquivalentRoles rs) h = each_named RoleHasNoFiller (renamed_role to) renamed_role-named rs h
-  renamed_axiom-named (DisjointRoles rs) h = each_named RoleHasNoFiller (renamed_role to) renamed_role-named rs h
+  renamed_axiom-named (EquivalentRoles rs) h = each_named RoleHasNoAuxiliary (renamed_role to) renamed_role-named rs h
+  renamed_axiom-named (DisjointRoles rs) h = each_named RoleHasNoAuxiliary (renamed_role to) renamed_role-named rs h
   renamed_axiom-named (InverseRoles r s) h = (renamed_role-named r h.0, renamed_role-named s h.1)
   renamed_axiom-named (Domain r ps) h =
-      (renamed_role-named r h.0, each_named PartHasNoFiller (renamed_part to) renamed_part-named ps h.1)
+      (renamed_role-named r h.0, each_named PartHasNoAuxiliary (renamed_part to) renamed_part-named ps h.1)
   renamed_axiom-named (Range r ps) h =
-      (renamed_role-named r h.0, each_named PartHasNoFiller (renamed_part to) renamed_part-named ps h.1)
+      (renamed_role-named r h.0, each_named PartHasNoAuxiliary (renamed_part to) renamed_part-named ps h.1)
   renamed_axiom-named (Symmetric r) h = renamed_role-named r h
   renamed_axiom-named (Asymmetric r) h = renamed_role-named r h
   renamed_axiom-named (Irreflexive r) h = renamed_role-named r h

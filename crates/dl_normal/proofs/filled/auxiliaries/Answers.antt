@@ -2,7 +2,7 @@ use Rattle.std.proofs.Common.{◌++◌, ◌∙◌, ap, sym, subst, length, filte
 use Rattle.std.proofs.lemmas.List.{take_all}
 use Rattle.dl_normal.specs.Filled.{filled, parts_of, filled_pairs, HasDistinct}
 use Rattle.dl_normal.proofs.FilledLemmas.{filled_pairs-more, pair_equal, HasDistinct-pairs}
-use Rattle.dl_normal.proofs.filled.fillers.Goals as goal
+use Rattle.dl_normal.proofs.filled.auxiliaries.Goals as goal
 
 pub loop-axiom-preserved : goal.loop-axiom-preserved
 loop-axiom-preserved c =

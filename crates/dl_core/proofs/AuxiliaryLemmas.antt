@@ -1,4 +1,4 @@
--- Axioms have no more fillers than they weigh, and a signature no more names than there are numbers.
+-- Axioms have no more auxiliary roles than they weigh, and a signature no more names than there are numbers.
 use Rattle.std.proofs.Common.{◌≡◌, ℕ, suc, ◌+◌, ◌<◌, ◌≤◌, Bool, true, false, cond, List, [], ◌∷◌, flat_map, filter_map, length, get_or, refl, sym, ap, subst, ◌∙◌, arith, length-append}
 use Rattle.std.specs.declared.cmp.Ordering.{Ordering}
 use Rattle.std.specs.List.Sorted.{IsStrictlyIncreasing}
@@ -20,9 +20,9 @@ use Rattle.dl_normal.specs.Weight.{axiom_weight, total_weight}
 use Rattle.dl_row.specs.Lists.{count, put}
 use Rattle.dl_row.proofs.CountLemmas.{count-put}
 use Rattle.dl_core.specs.Sets.{has, with_item, with_items}
-use Rattle.dl_core.specs.Names.{filler_cmp, fillers}
+use Rattle.dl_core.specs.Names.{auxiliary_cmp, auxiliaries}
 
--- ---- no more fillers than the axioms weigh
+-- ---- no more auxiliary roles than the axioms weigh
 
 pub count_all : {A : Type 0} (xs : List A) → count (λ x. true) xs ≡ length xs
 count_all [] = refl
@@ -76,9 +76,9 @@ pairs_weigh (a ∷ axioms) =
     let sum = sum_by-cons axiom_weight a axioms in
     omega (arith, ih, one, apart, both, sum)
 
-pub fillers_weigh : (axioms : List Axiom) → fillers axioms ≤ total_weight axioms
-fillers_weigh axioms =
-    let all = length-with_items filler_cmp (filled_pairs axioms) [] in
+pub auxiliaries_weigh : (axioms : List Axiom) → auxiliaries axioms ≤ total_weight axioms
+auxiliaries_weigh axioms =
+    let all = length-with_items auxiliary_cmp (filled_pairs axioms) [] in
     let some = pairs_weigh axioms in
     omega (arith, all, some)
 
