@@ -16,7 +16,7 @@ use Rattle.dl_terms.proofs.MemberLemmas.{Contains-two}
 use Rattle.dl_terms.proofs.BelowLemmas.{RoleBelow-keeps, ConceptBelow-inclusion}
 use Rattle.dl_terms.proofs.MatchLemmas.{is_role_of}
 use Rattle.dl_tree.specs.Sets.{is_in, touches, AreLinked, forward, backward, IsStepWithin, IsConnected, IsOutsideNeighbour}
-use Rattle.dl_tree.specs.Folds.{JoinsWords, to_longer, AtomHoldsAtWords, IsInTree, FoldsBy}
+use Rattle.dl_tree.specs.Folds.{JoinsWords, to_longer, AtomHoldsAtWords, IsInTree, IsTreeWitness}
 use Rattle.dl_examples.specs.Folds.{one_and_two, two_alone, first_three, two_in_a_row}
 use Rattle.dl_tree.proofs.FoldLemmas.{or_left, not_both}
 use Rattle.dl_tree.proofs.WordLemmas.{JoinsWords-itself, JoinsWords-from_root}
@@ -32,7 +32,7 @@ p_then_s (suc zero) = role_p ∷ []
 p_then_s (suc (suc zero)) = role_p ∷ role_s ∷ []
 p_then_s (suc (suc (suc v))) = []
 
-pub y_and_z_fold : FoldsBy along has_a_p_with_an_s one_and_two role_p p_then_s
+pub y_and_z_fold : IsTreeWitness along has_a_p_with_an_s one_and_two role_p p_then_s
 unfolding p_then_s
 y_and_z_fold = record { outside = outside; inside = inside; atoms = atoms }
   where
@@ -71,7 +71,7 @@ y_and_z_are_connected = record { member = 1; is_member = refl; chains = chains }
     chains (suc (suc (suc v))) w e f = absurd (true≢false (sym e))
 
 -- x is their outside neighbour, so S is no role of theirs
-pub not_by_s : (words : ℕ → List Role) → FoldsBy along has_a_p_with_an_s one_and_two role_s words → ⊥
+pub not_by_s : (words : ℕ → List Role) → IsTreeWitness along has_a_p_with_an_s one_and_two role_s words → ⊥
 not_by_s words f = below (JoinsWords-from_root along (named property_p) role_s (f.inside 1 refl).rest joined).1
   where
     joined : JoinsWords along (named property_p) [] (role_s ∷ (f.inside 1 refl).rest)
@@ -85,7 +85,7 @@ not_by_s words f = below (JoinsWords-from_root along (named property_p) role_s (
 -- ---- q() :- P(y, y)
 
 -- no variable with a loop folds
-pub no_loop : (axioms : List Axiom) (s : ℕ → Bool) (t : Role) (words : ℕ → List Role) → s 0 ≡ true → FoldsBy axioms some_loop s t words → ⊥
+pub no_loop : (axioms : List Axiom) (s : ℕ → Bool) (t : Role) (words : ℕ → List Role) → s 0 ≡ true → IsTreeWitness axioms some_loop s t words → ⊥
 no_loop axioms s t words e f =
     JoinsWords-itself axioms (named property_p) (words 0) (f.atoms (link property_p 0 0) (0, lit< tt, refl) (or_left (s 0) (s 0) e))
 
@@ -97,7 +97,7 @@ just_p (suc zero) = []
 just_p (suc (suc zero)) = role_p ∷ []
 just_p (suc (suc (suc v))) = []
 
-pub y_folds : (axioms : List Axiom) → FoldsBy axioms share_a_p two_alone role_p just_p
+pub y_folds : (axioms : List Axiom) → IsTreeWitness axioms share_a_p two_alone role_p just_p
 unfolding just_p
 y_folds axioms = record { outside = outside; inside = inside; atoms = atoms }
   where
@@ -128,7 +128,7 @@ in_a_row (suc zero) = role_p ∷ role_p ∷ []
 in_a_row (suc (suc zero)) = role_p ∷ role_p ∷ role_p ∷ []
 in_a_row (suc (suc (suc v))) = []
 
-pub all_fold : FoldsBy (a_p_has_a_p ∷ []) two_in_a_row first_three role_p in_a_row
+pub all_fold : IsTreeWitness (a_p_has_a_p ∷ []) two_in_a_row first_three role_p in_a_row
 unfolding in_a_row
 all_fold = record { outside = outside; inside = inside; atoms = atoms }
   where

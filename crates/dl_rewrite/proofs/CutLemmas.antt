@@ -17,7 +17,7 @@ use Rattle.dl_hier.proofs.MemberLemmas.{Contains-map_of, Contains-flat_map}
 use Rattle.dl_join.proofs.ProbeLemmas.{Contains-filter}
 use Rattle.dl_tree.specs.Sets.{IsConnected}
 use Rattle.dl_tree.specs.Below.{minus}
-use Rattle.dl_tree.specs.Folds.{IsRoleOfSet}
+use Rattle.dl_tree.specs.Folds.{IsGeneratingRole}
 use Rattle.dl_tree.specs.Masks.{set_of}
 use Rattle.dl_tree.specs.Table.{IsTableOf}
 use Rattle.dl_tree.proofs.FoldLemmas.{true_or_false, not_both, and_left, both, not_false}
@@ -126,11 +126,11 @@ module _ (axioms : List Axiom) (roles : List Role) (q : Query) (ex : List ℕ) (
       let a = body_atom q (member_of ex m) (part_body q ex listed set parts are m k) in
       record {
         exact = λ t. (
-          λ c. subst (λ l. IsRoleOfSet axioms roles q (set_of l m) t) (sym listed) ((row.exact t).0 c).2,
+          λ c. subst (λ l. IsGeneratingRole axioms roles q (set_of l m) t) (sym listed) ((row.exact t).0 c).2,
           λ is. (row.exact t).1 (
             subst (λ l. m < 2 ^ length l) listed (fits q ex listed set parts are m k),
             subst (λ l. IsConnected q (set_of l m)) listed (connected q ex listed set parts are m k),
-            subst (λ l. IsRoleOfSet axioms roles q (set_of l m) t) listed is,
+            subst (λ l. IsGeneratingRole axioms roles q (set_of l m) t) listed is,
           ),
         );
         is_member = member_in q ex listed set parts are m k;

@@ -22,10 +22,10 @@ use Rattle.dl_tree.specs.Sets.{is_in, touches}
 use Rattle.dl_rewrite.specs.OverNames.{HoldsOneOf, ProbeHolds, HasOverNames}
 use Rattle.dl_join.specs.Disjuncts.{name_of}
 use Rattle.dl_rewrite.specs.Parts.{TermsAre, PartHas, IsAnswerWhere}
-use Rattle.dl_rewrite.specs.Merged.{put_for, AreOne, Merges, probe_of}
-use Rattle.dl_rewrite.specs.Disjuncts.{Part, IsTermOf, IsPart, AreToMerge, part_probe, IsDisjunctOf}
+use Rattle.dl_rewrite.specs.Unifiers.{put_for, AreUnified, IsMostGeneralUnifier, probe_of}
+use Rattle.dl_rewrite.specs.Disjuncts.{Part, IsTermOf, IsPart, AreToUnify, part_probe, IsDisjunctOf}
 use Rattle.dl_tree.proofs.FoldLemmas.{or_left, or_right}
-use Rattle.dl_rewrite.proofs.MergeLemmas.{name_put, AreOne-put}
+use Rattle.dl_rewrite.proofs.UnifierLemmas.{name_put, AreUnified-put}
 
 -- ---- lists
 
@@ -58,7 +58,7 @@ map_in f (y ∷ xs) x c = by (Contains-cons y x xs c) (λ d. map_in f xs x d)
     by (inr d) later = Contains-later (f y) (f x) (map f xs) (later d)
 
 module _ (axioms : List Axiom) (facts : List Fact) (roles : List Role) (q : Query) (s : ℕ → Bool) (parts : List Part) (pairs : List (Term × Term)) (to : ℕ → Term)
-    (are : (c : Part) → Contains parts c → IsPart axioms roles q c) (merge : AreToMerge q parts pairs) (merged : Merges pairs to) where
+    (are : (c : Part) → Contains parts c → IsPart axioms roles q c) (to_unify : AreToUnify q parts pairs) (unifies : IsMostGeneralUnifier pairs to) where
   value_of_names : (names : ℕ → ℕ) (u : Term) → value_of (λ v. individual (names v)) u ≡ individual (name_of names u)
   value_of_names names (Var v) = refl
   value_of_names names (Name a) = refl
@@ -128,7 +128,7 @@ module _ (axioms : List Axiom) (facts : List Fact) (roles : List Role) (q : Quer
               is_role = ((are c k).exact r.0).0 r.1;
               holds = subst (λ b. HoldsAtName axioms facts b (name_of h.names (to c.member))) (sym r.2) one.holds;
               terms = λ a i e. terms_of (λ v. name_of h.names (to v)) a (name_of h.names (to c.member))
-                  (λ t j. sym (AreOne-put pairs to merged h.names (Var c.member, t) (merge.each c a t k i e j)));
+                  (λ t j. sym (AreUnified-put pairs to unifies h.names (Var c.member, t) (to_unify.each c a t k i e j)));
             }
 
     -- ---- from names for the set
@@ -158,13 +158,13 @@ module _ (axioms : List Axiom) (facts : List Fact) (roles : List Role) (q : Quer
             let i = are c k in
             term_at h.names i.atom (has c k).root (Var c.member) ((has c k).terms i.atom i.is_atom (touched c.set c.member i.atom i.is_member i.is_term)) i.is_term
 
-        ones : (e : Term × Term) → Contains pairs e → AreOne h.names e
+        ones : (e : Term × Term) → Contains pairs e → AreUnified h.names e
         ones e c =
-            let o = merge.only e c in
+            let o = to_unify.only e c in
             ap (name_of h.names) o.6 ∙ at_member o.0 o.2 ∙ sym (term_at h.names o.1 (has o.0 o.2).root e.1 ((has o.0 o.2).terms o.1 o.3 o.4) o.5)
 
         same : (u : Term) → name_of h.names (put_for to u) ≡ name_of h.names u
-        same u = name_put pairs to merged h.names ones u
+        same u = name_put pairs to unifies h.names ones u
 
         map_same : (vs : List ℕ) → map (λ v. name_of h.names (to v)) vs ≡ map h.names vs
         map_same [] = refl

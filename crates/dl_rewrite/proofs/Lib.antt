@@ -1,12 +1,12 @@
 pub mod SoundLemmas
 pub mod CompleteLemmas
 pub mod CertainLemmas
-pub mod MergeLemmas
+pub mod UnifierLemmas
 pub mod DisjunctLemmas
 pub mod RewritingLemmas
 pub mod KnownLemmas
 pub mod PairLemmas
-pub mod MergedLemmas
+pub mod UnifiedLemmas
 pub mod CutLemmas
 pub mod StepLemmas
 pub mod ShapeLemmas

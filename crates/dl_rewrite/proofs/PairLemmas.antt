@@ -12,7 +12,7 @@ use Rattle.dl_hier.proofs.MemberLemmas.{Contains-map, Contains-map_of, Contains-
 use Rattle.dl_tree.specs.Sets.{touches}
 use Rattle.dl_tree.specs.Masks.{set_of}
 use Rattle.dl_tree.proofs.FoldLemmas.{true_or_false}
-use Rattle.dl_rewrite.specs.Disjuncts.{IsTermOf, AreToMerge}
+use Rattle.dl_rewrite.specs.Disjuncts.{IsTermOf, AreToUnify}
 use Rattle.dl_rewrite.specs.Steps.{member_of, part_at, atom_terms, atom_pairs, part_pairs, pairs_of}
 
 pub term_in : (a : Atom) (t : Term) → IsTermOf t a → Contains (atom_terms a) t
@@ -63,10 +63,10 @@ module _ (ex : List ℕ) (atoms : List Atom) (parts : List ℕ) where
       let o = of_atom p.0 k.0 e k.2 in
       (p.0, k.0, p.1, k.1, o.0, o.1, o.2)
 
--- the pairs are those that have to be merged
-pub to_merge : (q : Query) (ex : List ℕ) (rows : List (List Role)) (parts : List ℕ)
-    → AreToMerge q (map (part_at ex rows) parts) (pairs_of ex q.atoms parts)
-to_merge q ex rows parts = record {
+-- the pairs are those that have to be unified
+pub pairs_to_unify : (q : Query) (ex : List ℕ) (rows : List (List Role)) (parts : List ℕ)
+    → AreToUnify q (map (part_at ex rows) parts) (pairs_of ex q.atoms parts)
+pairs_to_unify q ex rows parts = record {
   each = λ c a t k i touched is.
       let w = Contains-map (part_at ex rows) parts c k in
       subst (λ z. Contains (pairs_of ex q.atoms parts) (Var z.member, t)) w.2

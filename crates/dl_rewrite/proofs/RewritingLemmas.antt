@@ -27,7 +27,7 @@ module _ (axioms : List Axiom) (roles : List Role) (q : Query) (ds : List Disjun
       by (inl h) = record {
         disjunct = h.0;
         is_one = h.1;
-        has = disjuncts.names_of axioms facts roles q s h.2.parts h.2.pairs h.2.to h.2.are_parts h.2.merge h.2.merged h.0 h.2.is_disjunct tuple
+        has = disjuncts.names_of axioms facts roles q s h.2.parts h.2.pairs h.2.to h.2.are_parts h.2.to_unify h.2.unifies h.0 h.2.is_disjunct tuple
             (answer_of axioms facts roles q tuple well known c (map (λ c. c.set) h.2.parts) h.2.cut);
       }
       by (inr h) =
@@ -38,7 +38,7 @@ module _ (axioms : List Axiom) (roles : List Role) (q : Query) (ds : List Disjun
   from_disjunct h =
       let o = is.only h.disjunct h.is_one in
       certain_of axioms facts roles q tuple o.0 (map (λ c. c.set) o.2.parts) o.1 o.2.cut
-      (disjuncts.answer_of axioms facts roles q o.0 o.2.parts o.2.pairs o.2.to o.2.are_parts o.2.merge o.2.merged h.disjunct o.2.is_disjunct tuple h.has)
+      (disjuncts.answer_of axioms facts roles q o.0 o.2.parts o.2.pairs o.2.to o.2.are_parts o.2.to_unify o.2.unifies h.disjunct o.2.is_disjunct tuple h.has)
 
   pub Certain-Rewriting : IsCertain axioms facts q tuple ↔ SomeHasOverNames axioms facts ds tuple
   Certain-Rewriting = (to_disjunct, from_disjunct)

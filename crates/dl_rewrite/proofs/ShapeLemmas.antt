@@ -21,13 +21,13 @@ use Rattle.dl_tree.specs.Sets.{is_in, touches}
 use Rattle.dl_tree.specs.Masks.{set_of}
 use Rattle.dl_tree.proofs.FoldLemmas.{true_or_false, or_left, or_right}
 use Rattle.dl_rewrite.specs.Parts.{TermsAre, PartHas, HoldsWhere}
-use Rattle.dl_rewrite.specs.Merged.{put_for, AreOne, probe_of}
+use Rattle.dl_rewrite.specs.Unifiers.{put_for, AreUnified, probe_of}
 use Rattle.dl_rewrite.specs.Rewriting.{HasNoDisjunct}
 use Rattle.dl_rewrite.specs.Disjuncts.{IsTermOf, part_probe}
 use Rattle.dl_rewrite.specs.Shape.{IsShapedFor}
-use Rattle.dl_rewrite.specs.Steps.{member_of, part_at, ArePartsOf, pairs_of, term_at, IsTermBelow, MakeOne, AreApart, AreTermsBelow, probes_of}
+use Rattle.dl_rewrite.specs.Steps.{member_of, part_at, ArePartsOf, pairs_of, term_at, IsTermBelow, AreMostGeneralUnifier, HaveNoUnifier, AreTermsBelow, probes_of}
 use Rattle.dl_rewrite.proofs.PairLemmas.{pair_in, pair_of}
-use Rattle.dl_rewrite.proofs.MergedLemmas.{below_put}
+use Rattle.dl_rewrite.proofs.UnifiedLemmas.{below_put}
 use Rattle.dl_rewrite.proofs.CutLemmas.{covered, body_atom, member_in, part_body}
 use Rattle.dl_rewrite.proofs.StepLemmas.{term_below, var_below, atom_in, part_in, only, IsOutside, IsOfPart, length-map}
 
@@ -80,7 +80,7 @@ module _ (q : Query) (well : IsWellFormed q) (ex : List ℕ) (listed : ex ≡ ex
 
   module _ (rows : List (List Role)) (to : List Term) (d : Disjunct) (head : d.head ≡ map (term_at to) q.head)
       (probes : d.probes ≡ probes_of ex rows q.atoms set parts to) (vars : d.vars ≡ q.vars)
-      (make : MakeOne q.vars (pairs_of ex q.atoms parts) to) where
+      (make : AreMostGeneralUnifier q.vars (pairs_of ex q.atoms parts) to) where
     put_below : (t : Term) → IsTermBelow q.vars t → (v : ℕ) → put_for (term_at to) t ≡ Var v → v < d.vars
     put_below t h v e =
         subst (λ n. v < n) (sym vars) (subst (IsTermBelow q.vars) e (below_put q.vars to make.below make.as_many t h))
@@ -104,7 +104,7 @@ module _ (q : Query) (well : IsWellFormed q) (ex : List ℕ) (listed : ex ≡ ex
             → IsTermOf (Var w) a → (c : ℕ → Bool) → Contains (map (set_of ex) parts) c → c w ≡ true → Any (HasVariable v) d.probes
         in_part v h e a i is w iw c k cw =
             let m = Contains-map (set_of ex) parts c k in
-            let one = make.merges.one (Var (member_of ex m.0), Var h)
+            let one = make.unifies.one (Var (member_of ex m.0), Var h)
             (pair_in ex q.atoms parts m.0 a (Var h) m.1 i (touched_by (set_of ex m.0) w a (subst (λ s. s w ≡ true) (sym m.2) cw) iw) is) in
             Any-of (HasVariable v) d.probes (part_probe (term_at to) (part_at ex rows m.0)) (part_in q ex rows set parts to d head probes m.0 m.1) (one ∙ e)
 
@@ -135,7 +135,7 @@ term_named names (Link p u w) n t h (inr e) = ap (name_of names) e ∙ h.1
 module _ (axioms : List Axiom) (roles : List Role) (q : Query) (ex : List ℕ) (listed : ex ≡ existential_variables q) (set : ℕ)
     (parts : List ℕ) (are : ArePartsOf q ex set parts) where
   ones : (facts : List Fact) (names : ℕ → ℕ) → HoldsWhere axioms facts roles q (set_of ex set) (map (set_of ex) parts) names
-      → (e : Term × Term) → Contains (pairs_of ex q.atoms parts) e → AreOne names e
+      → (e : Term × Term) → Contains (pairs_of ex q.atoms parts) e → AreUnified names e
   ones facts names h e c =
       let o = pair_of ex q.atoms parts e c in
       let all = All-from_recursion (PartHas axioms facts roles q names) (map (set_of ex) parts) h.each_part in
@@ -145,7 +145,7 @@ module _ (axioms : List Axiom) (roles : List Role) (q : Query) (ex : List ℕ) (
       ap (name_of names) o.6 ∙ term_named names b.0 has.root (Var (member_of ex o.0)) (has.terms b.0 b.1 t) b.2
       ∙ sym (term_named names o.1 has.root e.1 (has.terms o.1 o.3 o.4) o.5)
 
-  pub none_merges : AreApart (pairs_of ex q.atoms parts) → HasNoDisjunct axioms roles q (set_of ex set)
+  pub none_merges : HaveNoUnifier (pairs_of ex q.atoms parts) → HasNoDisjunct axioms roles q (set_of ex set)
   none_merges apart = record {
     parts = map (set_of ex) parts;
     cut = are.cut;

@@ -14,7 +14,7 @@ use Rattle.dl_terms.specs.declared.query.Atom.{Atom}
 use Rattle.dl_terms.specs.declared.query.Atom.TheVariants.{Is, Link}
 use Rattle.dl_terms.specs.declared.query.Query.{Query}
 use Rattle.dl_tree.specs.Sets.{is_in, touches, AreLinked, forward, backward, IsOutsideNeighbour}
-use Rattle.dl_tree.specs.Folds.{word_of, FoldsBy}
+use Rattle.dl_tree.specs.Folds.{word_of, IsTreeWitness}
 use Rattle.dl_join.specs.Disjuncts.{name_of}
 use Rattle.dl_tree.specs.Below.{minus, IsClosedIn}
 use Rattle.dl_rewrite.specs.Parts.{AreParts, TermsAre, PartHas, HoldsWhere}
@@ -68,7 +68,7 @@ module _ (axioms : List Axiom) (facts : List Fact) (q : Query) where
   put c a words m v = cond (c v) (record { name = a; word = words v }) (m v)
 
   module _ (r c : ℕ → Bool) (m : ℕ → Element) (h : HoldsOutside r m) (t : Role) (a : ℕ) (words : ℕ → List Role)
-      (f : FoldsBy axioms q c t words) (holds : HoldsAtName axioms facts (SomeOf t) a)
+      (f : IsTreeWitness axioms q c t words) (holds : HoldsAtName axioms facts (SomeOf t) a)
       (near : (u : Term) → IsOutsideNeighbour q c u → value_of m u ≡ individual a) where
     new : ℕ → Element
     new = put c a words m

@@ -19,11 +19,11 @@ use Rattle.dl_tree.specs.Masks.{set_of}
 use Rattle.dl_tree.specs.Table.{IsTableOf}
 use Rattle.dl_tree.proofs.FoldLemmas.{true_or_false}
 use Rattle.dl_rewrite.specs.Parts.{AreParts}
-use Rattle.dl_rewrite.specs.Merged.{probe_of}
+use Rattle.dl_rewrite.specs.Unifiers.{probe_of}
 use Rattle.dl_rewrite.specs.Disjuncts.{Part, IsTermOf, IsPart, part_probe, IsDisjunctOf}
 use Rattle.dl_rewrite.specs.Rewriting.{IsDisjunctFor}
-use Rattle.dl_rewrite.specs.Steps.{part_at, ArePartsOf, pairs_of, term_at, IsTermBelow, MakeOne, outside_probe, probes_of}
-use Rattle.dl_rewrite.proofs.PairLemmas.{to_merge}
+use Rattle.dl_rewrite.specs.Steps.{part_at, ArePartsOf, pairs_of, term_at, IsTermBelow, AreMostGeneralUnifier, outside_probe, probes_of}
+use Rattle.dl_rewrite.proofs.PairLemmas.{pairs_to_unify}
 use Rattle.dl_rewrite.proofs.CutLemmas.{is_part}
 
 -- ---- terms of the body
@@ -115,7 +115,7 @@ module _ (q : Query) (ex : List ℕ) (rows : List (List Role)) (set : ℕ) (part
 
   module _ (axioms : List Axiom) (roles : List Role) (listed : ex ≡ existential_variables q) (few : length ex ≤ 8)
       (table : IsTableOf axioms roles q rows) (are : ArePartsOf q ex set parts)
-      (make : MakeOne q.vars (pairs_of ex q.atoms parts) to) where
+      (make : AreMostGeneralUnifier q.vars (pairs_of ex q.atoms parts) to) where
     pub disjunct_for : IsDisjunctFor axioms roles q (set_of ex set) d
     disjunct_for = record {
       parts = map (part_at ex rows) parts;
@@ -124,8 +124,8 @@ module _ (q : Query) (ex : List ℕ) (rows : List (List Role)) (set : ℕ) (part
           let w = Contains-map (part_at ex rows) parts c k in
           subst (IsPart axioms roles q) w.2 (is_part axioms roles q ex rows listed few table set parts are w.0 w.1);
       pairs = pairs_of ex q.atoms parts;
-      merge = to_merge q ex rows parts;
+      to_unify = pairs_to_unify q ex rows parts;
       to = term_at to;
-      merged = make.merges;
+      unifies = make.unifies;
       is_disjunct = is_disjunct;
     }

@@ -13,8 +13,8 @@ use Rattle.dl_terms.specs.declared.query.Probe.{Probe}
 use Rattle.dl_terms.specs.declared.query.Probe.TheVariants.{AnyOf}
 use Rattle.dl_terms.specs.declared.query.Disjunct.{Disjunct}
 use Rattle.dl_tree.specs.Sets.{touches}
-use Rattle.dl_tree.specs.Folds.{IsRoleOfSet}
-use Rattle.dl_rewrite.specs.Merged.{probe_of}
+use Rattle.dl_tree.specs.Folds.{IsGeneratingRole}
+use Rattle.dl_rewrite.specs.Unifiers.{probe_of}
 
 -- a part, one of its members, and its roles
 pub record Part : Type 0 where
@@ -27,16 +27,16 @@ abbrev pub IsTermOf : Term → Atom → Type 0
 IsTermOf t (Is c u) = t ≡ u
 IsTermOf t (Link p u w) = (t ≡ u) ⊎ (t ≡ w)
 
--- the roles of a part are those into whose trees it folds; its member is in it and in an atom
+-- the roles of a part are those that generate it as a tree witness; its member is in it and in an atom
 pub record IsPart (axioms : List Axiom) (roles : List Role) (q : Query) (c : Part) : Type 0 where
-  pub exact : (t : Role) → Contains c.roles t ↔ IsRoleOfSet axioms roles q c.set t
+  pub exact : (t : Role) → Contains c.roles t ↔ IsGeneratingRole axioms roles q c.set t
   pub is_member : c.set c.member ≡ true
   pub atom : Atom
   pub is_atom : Contains q.atoms atom
   pub is_term : IsTermOf (Var c.member) atom
 
--- the pairs of terms that have to be one: the member of each part, with each term that shares an atom with the part
-pub record AreToMerge (q : Query) (parts : List Part) (pairs : List (Term × Term)) : Type 0 where
+-- the pairs of terms to unify: the member of each part, with each term that shares an atom with the part
+pub record AreToUnify (q : Query) (parts : List Part) (pairs : List (Term × Term)) : Type 0 where
   pub each : (c : Part) (a : Atom) (t : Term) → Contains parts c → Contains q.atoms a
       → touches c.set a ≡ true → IsTermOf t a → Contains pairs (Var c.member, t)
   pub only : (e : Term × Term) → Contains pairs e

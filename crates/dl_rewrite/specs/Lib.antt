@@ -1,7 +1,7 @@
 pub mod OverNames
 pub mod Known
 pub mod Parts
-pub mod Merged
+pub mod Unifiers
 pub mod Disjuncts
 pub mod Rewriting
 pub mod Steps

@@ -12,7 +12,7 @@ use Rattle.dl_terms.specs.declared.query.Atom.{Atom}
 use Rattle.dl_terms.specs.declared.query.Atom.TheVariants.{Is, Link}
 use Rattle.dl_terms.specs.declared.query.Query.{Query}
 use Rattle.dl_tree.specs.Sets.{touches, IsConnected}
-use Rattle.dl_tree.specs.Folds.{IsRoleOfSet}
+use Rattle.dl_tree.specs.Folds.{IsGeneratingRole}
 use Rattle.dl_join.specs.Disjuncts.{name_of}
 use Rattle.dl_tree.specs.Below.{minus, IsClosedIn}
 
@@ -32,7 +32,7 @@ pub record PartHas (axioms : List Axiom) (facts : List Fact) (roles : List Role)
     (c : ℕ → Bool) : Type 0 where
   pub root : ℕ
   pub role : Role
-  pub is_role : IsRoleOfSet axioms roles q c role
+  pub is_role : IsGeneratingRole axioms roles q c role
   pub holds : HoldsAtName axioms facts (SomeOf role) root
   pub terms : (a : Atom) → Contains q.atoms a → touches c a ≡ true → TermsAre names root a
 

@@ -8,8 +8,8 @@ use Rattle.dl_terms.specs.declared.query.Term.{Term}
 use Rattle.dl_terms.specs.declared.query.Query.{Query}
 use Rattle.dl_terms.specs.declared.query.Disjunct.{Disjunct}
 use Rattle.dl_rewrite.specs.Parts.{AreParts, HoldsWhere, AreExistential}
-use Rattle.dl_rewrite.specs.Merged.{Merges}
-use Rattle.dl_rewrite.specs.Disjuncts.{Part, IsPart, AreToMerge, IsDisjunctOf}
+use Rattle.dl_rewrite.specs.Unifiers.{IsMostGeneralUnifier}
+use Rattle.dl_rewrite.specs.Disjuncts.{Part, IsPart, AreToUnify, IsDisjunctOf}
 
 -- a disjunct of a set, by its parts and by the terms that are put for variables
 pub record IsDisjunctFor (axioms : List Axiom) (roles : List Role) (q : Query) (s : ℕ → Bool) (d : Disjunct)
@@ -18,9 +18,9 @@ pub record IsDisjunctFor (axioms : List Axiom) (roles : List Role) (q : Query) (
   pub cut : AreParts q s (map (λ c. c.set) parts)
   pub are_parts : (c : Part) → Contains parts c → IsPart axioms roles q c
   pub pairs : List (Term × Term)
-  pub merge : AreToMerge q parts pairs
+  pub to_unify : AreToUnify q parts pairs
   pub to : ℕ → Term
-  pub merged : Merges pairs to
+  pub unifies : IsMostGeneralUnifier pairs to
   pub is_disjunct : IsDisjunctOf q s parts to d
 
 -- a set that makes no disjunct: whatever the facts, no names fit it

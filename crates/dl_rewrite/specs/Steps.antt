@@ -12,7 +12,7 @@ use Rattle.dl_terms.specs.declared.query.Probe.{Probe}
 use Rattle.dl_tree.specs.Sets.{touches}
 use Rattle.dl_tree.specs.Masks.{set_of}
 use Rattle.dl_rewrite.specs.Parts.{AreParts}
-use Rattle.dl_rewrite.specs.Merged.{AreOne, Merges, probe_of}
+use Rattle.dl_rewrite.specs.Unifiers.{AreUnified, IsMostGeneralUnifier, probe_of}
 use Rattle.dl_rewrite.specs.Disjuncts.{Part, part_probe}
 
 -- the first of some variables that is in a set
@@ -57,15 +57,15 @@ abbrev pub IsTermBelow : ℕ → Term → Type 0
 IsTermBelow n (Var v) = v < n
 IsTermBelow n (Name a) = Unit {0}
 
--- terms for so many variables that make pairs of terms one, and say no more
-pub record MakeOne (n : ℕ) (pairs : List (Term × Term)) (to : List Term) : Type 0 where
+-- a list of terms for so many variables that is a most general unifier of some pairs
+pub record AreMostGeneralUnifier (n : ℕ) (pairs : List (Term × Term)) (to : List Term) : Type 0 where
   pub as_many : length to ≡ n
   pub below : All (IsTermBelow n) to
-  pub merges : Merges pairs (term_at to)
+  pub unifies : IsMostGeneralUnifier pairs (term_at to)
 
--- no names make the pairs one
-abbrev pub AreApart : List (Term × Term) → Type 0
-AreApart pairs = (names : ℕ → ℕ) → ((e : Term × Term) → Contains pairs e → AreOne names e) → ⊥
+-- no assignment of names unifies the pairs
+abbrev pub HaveNoUnifier : List (Term × Term) → Type 0
+HaveNoUnifier pairs = (names : ℕ → ℕ) → ((e : Term × Term) → Contains pairs e → AreUnified names e) → ⊥
 
 abbrev pub AreTermsBelow : ℕ → List (Term × Term) → Type 0
 AreTermsBelow n pairs = All (λ e. IsTermBelow n e.0 × IsTermBelow n e.1) pairs

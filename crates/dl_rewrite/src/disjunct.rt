@@ -9,13 +9,13 @@ ghost use Rattle.dl_terms.specs.declared.role.Basic.TheVariants.{SomeOf as Some_
 ghost use Rattle.dl_terms.specs.declared.query.Probe.TheVariants.{AnyOf as Any_};
 ghost use Rattle.dl_tree.specs.Table.{IsTableOf};
 ghost use Rattle.dl_tree.specs.Masks.{set_of, AreLinkMasks};
-ghost use Rattle.dl_rewrite.specs.Merged.{probe_of};
+ghost use Rattle.dl_rewrite.specs.Unifiers.{probe_of};
 ghost use Rattle.dl_rewrite.specs.Shape.{IsShapedFor};
 ghost use Rattle.dl_rewrite.specs.Rewriting.{IsDisjunctFor, HasNoDisjunct};
-ghost use Rattle.dl_rewrite.specs.Steps.{term_at, ArePartsOf, pairs_of, MakeOne, outside_probe, probes_of};
+ghost use Rattle.dl_rewrite.specs.Steps.{term_at, ArePartsOf, pairs_of, AreMostGeneralUnifier, outside_probe, probes_of};
 
-use crate::merge::{merged, put, term_at};
 use crate::parts::{member_of, pairs_of, parts_of, touches};
+use crate::unify::{put, term_at, unifier};
 use dl_terms::{Atom, Basic, Disjunct, List, NoMemory, Probe, Query, Role, Term};
 use dl_tree::TreeTable;
 use std::alloc::{AllocError, Global};
@@ -46,7 +46,7 @@ pub(crate) fn disjunct_of(
         return Ok(None);
     }
     let pairs = pairs_of(alloc, variables, query.atoms.as_slice(), &parts)?;
-    match merged(alloc, query.vars, &pairs)? {
+    match unifier(alloc, query.vars, &pairs)? {
         Some(to) => {
             let head = head_of(alloc, query.head.as_slice(), &to)?;
             let probes = probes_of(

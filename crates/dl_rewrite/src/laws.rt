@@ -1,4 +1,4 @@
-//! Laws of matches, of merged terms and of disjuncts on which rewriting rests.
+//! Laws of matches, of unified terms and of disjuncts on which rewriting rests.
 ghost use Rattle.std.specs.Prelude.{◌≡◌, ℕ, ◌<◌, Bool, true, false, ◌↔◌, List, [], ◌∷◌};
 ghost use Rattle.dl_terms.specs.Structure.{HoldsAtName, Element, individual};
 ghost use Rattle.dl_terms.specs.Answers.{value_of, IsMatch, IsCertain};
@@ -9,12 +9,12 @@ ghost use Rattle.dl_terms.specs.declared.axiom.Fact.{Fact};
 ghost use Rattle.dl_terms.specs.declared.query.Term.{Term};
 ghost use Rattle.dl_terms.specs.declared.query.Query.{Query};
 ghost use Rattle.dl_tree.specs.Sets.{is_in, AreLinked};
-ghost use Rattle.dl_rewrite.specs.Merged.{put_for, replaced, AreOne, Merges};
+ghost use Rattle.dl_rewrite.specs.Unifiers.{put_for, replaced, AreUnified, IsMostGeneralUnifier};
 ghost use Rattle.dl_terms.specs.declared.query.Term.TheVariants.{Var, Name};
 ghost use Rattle.dl_rewrite.specs.Parts.{AreParts, PartHas, HoldsWhere, IsAnswerWhere, AreExistential};
 ghost use Rattle.std.specs.List.{Contains, AllByRecursion};
 ghost use Rattle.dl_terms.specs.declared.role.Basic.TheVariants.{SomeOf};
-ghost use Rattle.dl_rewrite.specs.Disjuncts.{Part, IsPart, AreToMerge, IsDisjunctOf};
+ghost use Rattle.dl_rewrite.specs.Disjuncts.{Part, IsPart, AreToUnify, IsDisjunctOf};
 ghost use Rattle.dl_rewrite.specs.OverNames.{HasOverNames, SomeHasOverNames};
 ghost use Rattle.dl_rewrite.specs.Rewriting.{IsRewriting};
 ghost use Rattle.dl_terms.specs.declared.query.Disjunct.{Disjunct};
@@ -57,26 +57,26 @@ pub fn certain_answers_split()
         × IsAnswerWhere axioms facts roles q s (parts_of s) tuple) }
 {}
 
-/// Pairs of terms are made one, pair by pair, by a term put for a variable; two different names can't be one.
-pub fn terms_merge()
-    ensures none { Merges [] Var }
-    ensures same { (pairs : List (Term × Term)) (to : ℕ → Term) (x y : Term) → Merges pairs to
-        → put_for to x ≡ put_for to y → Merges ((x, y) ∷ pairs) to }
+/// A most general unifier grows pair by pair, by a term put for a variable; two different names have none (Robinson 1965).
+pub fn terms_unify()
+    ensures none { IsMostGeneralUnifier [] Var }
+    ensures same { (pairs : List (Term × Term)) (to : ℕ → Term) (x y : Term) → IsMostGeneralUnifier pairs to
+        → put_for to x ≡ put_for to y → IsMostGeneralUnifier ((x, y) ∷ pairs) to }
     ensures put { (pairs : List (Term × Term)) (to : ℕ → Term) (x y : Term) (v : ℕ)
-        → Merges pairs to → put_for to x ≡ Var v
-        → Merges ((x, y) ∷ pairs) (λ w. replaced v (put_for to y) (to w)) }
+        → IsMostGeneralUnifier pairs to → put_for to x ≡ Var v
+        → IsMostGeneralUnifier ((x, y) ∷ pairs) (λ w. replaced v (put_for to y) (to w)) }
     ensures clash { (pairs : List (Term × Term)) (to : ℕ → Term) (x y : Term) (a b : ℕ)
-        → Merges pairs to → put_for to x ≡ Name a → put_for to y ≡ Name b → (a ≡ b → ⊥)
+        → IsMostGeneralUnifier pairs to → put_for to x ≡ Name a → put_for to y ≡ Name b → (a ≡ b → ⊥)
         → (names : ℕ → ℕ)
-        → ((e : Term × Term) → Contains ((x, y) ∷ pairs) e → AreOne names e) → ⊥ }
+        → ((e : Term × Term) → Contains ((x, y) ∷ pairs) e → AreUnified names e) → ⊥ }
 {}
 
 /// The disjunct of a set has a tuple over names exactly where the tuple is an answer for the set.
 pub fn disjuncts_have_answers()
     ensures { (axioms : List Axiom) (facts : List Fact) (roles : List Role) (q : Query) (s : ℕ → Bool)
         (parts : List Part) (pairs : List (Term × Term)) (to : ℕ → Term)
-        → ((c : Part) → Contains parts c → IsPart axioms roles q c) → AreToMerge q parts pairs
-        → Merges pairs to → (d : Disjunct) → IsDisjunctOf q s parts to d → (tuple : List ℕ)
+        → ((c : Part) → Contains parts c → IsPart axioms roles q c) → AreToUnify q parts pairs
+        → IsMostGeneralUnifier pairs to → (d : Disjunct) → IsDisjunctOf q s parts to d → (tuple : List ℕ)
         → HasOverNames axioms facts d tuple
         ↔ IsAnswerWhere axioms facts roles q s (map (λ c. c.set) parts) tuple }
 {}

@@ -3,8 +3,8 @@
 
 mod disjunct;
 pub mod laws;
-mod merge;
 mod parts;
 mod rewriting;
+mod unify;
 
 pub use rewriting::rewrite;

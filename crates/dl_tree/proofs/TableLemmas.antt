@@ -22,7 +22,7 @@ use Rattle.dl_hier.specs.Picking.{ArePicked}
 use Rattle.dl_hier.proofs.MemberLemmas.{StandsAt-get, StandsAt-default}
 use Rattle.dl_hier.proofs.HierLemmas.{sorted-none}
 use Rattle.dl_tree.specs.Sets.{IsConnected}
-use Rattle.dl_tree.specs.Folds.{FoldsBy}
+use Rattle.dl_tree.specs.Folds.{IsTreeWitness}
 use Rattle.dl_tree.specs.Below.{minus, MayFollow, FoldsBelow, SplitsAtSome, IsClosedIn}
 use Rattle.dl_tree.specs.Each.{IsEach}
 use Rattle.dl_tree.specs.Masks.{place, set_of}
@@ -115,7 +115,7 @@ module _ (h : Hierarchy) (axioms : List Axiom) (q : Query) (links : List (ℕ ×
       bases : TellsRow (length rs) (λ i. SplitsAtSome axioms q set (role_at rs i)) row
       bases = bases_told tops row are told
 
-      folds : (t : Role) → ((words : ℕ → List Role) × FoldsBy axioms q set t words) ↔ ((r : Role) × Chain (MayFollow axioms) t r × SplitsAtSome axioms q set r)
+      folds : (t : Role) → ((words : ℕ → List Role) × IsTreeWitness axioms q set t words) ↔ ((r : Role) × Chain (MayFollow axioms) t r × SplitsAtSome axioms q set r)
       folds = Folds-Chain axioms q set (no_neighbour q ex links next.plan.masks s next.fits e) connected (suc (total ex))
           (λ v m. let k = below_total ex v (member_known ex s v next.fits m) in omega (arith, k))
 
@@ -146,7 +146,7 @@ module _ (h : Hierarchy) (axioms : List Axiom) (q : Query) (links : List (ℕ ×
             let p = place_of rs w.0 (next.plan.followers (role_at rs i) w.0 w.1 (Contains-get_or rs i (named 0) l)) in (
               p.0,
               p.1,
-              (fold.tells.each p.0 p.1).1 (subst (λ t. (words : ℕ → List Role) × FoldsBy axioms q set t words) (sym p.2) w.2),
+              (fold.tells.each p.0 p.1).1 (subst (λ t. (words : ℕ → List Role) × IsTreeWitness axioms q set t words) (sym p.2) w.2),
               subst (MayFollow axioms (role_at rs i)) (sym p.2) w.1,
             ),
       )
@@ -214,7 +214,7 @@ module _ (h : Hierarchy) (axioms : List Axiom) (q : Query) (links : List (ℕ ×
       λ c.
           let w = (picked.exact t).0 c in
           let e : role_at rs w.0 ≡ t = StandsAt-default (named 0) w.1 in
-          let f = subst (λ z. (words : ℕ → List Role) × FoldsBy axioms q set z words) e ((fold.tells.each w.0 w.1.within).0 w.2) in
+          let f = subst (λ z. (words : ℕ → List Role) × IsTreeWitness axioms q set z words) e ((fold.tells.each w.0 w.1.within).0 w.2) in
           (next.fits, fold.connected, record { in_hierarchy = (w.0, w.1.within, w.1.is); words = f.0; folds = f.1 }),
       λ w.
           let r = w.2 in
@@ -222,7 +222,7 @@ module _ (h : Hierarchy) (axioms : List Axiom) (q : Query) (links : List (ℕ ×
           (picked.exact t).1 (
             p.0,
             subst (StandsAt rs p.0) p.2 (StandsAt-get rs p.0 (named 0) p.1),
-            (fold.tells.each p.0 p.1).1 (subst (λ z. (words : ℕ → List Role) × FoldsBy axioms q set z words) (sym p.2) (r.words, r.folds)),
+            (fold.tells.each p.0 p.1).1 (subst (λ z. (words : ℕ → List Role) × IsTreeWitness axioms q set z words) (sym p.2) (r.words, r.folds)),
           ),
     );
   }

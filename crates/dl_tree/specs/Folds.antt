@@ -1,5 +1,5 @@
--- Sets of variables that fold into the tree that a role generates: tree witnesses (Kikot, Kontchakov, Zakharyaschev:
--- Conjunctive Query Answering with OWL 2 QL, 2012), here for connected sets, which is this project's own. The words of
+-- Tree witnesses (Kikot, Kontchakov, Zakharyaschev: Conjunctive Query Answering with OWL 2 QL, 2012): sets of variables
+-- that fold into the tree that a role generates, here for connected sets, which is this project's own. The words of
 -- a tree follow the rules of the canonical structure; its root is the empty word.
 use Rattle.std.specs.Prelude.{◌≡◌, ℕ, Bool, true, false, List, [], ◌∷◌, ◌++◌}
 use Rattle.std.specs.List.{Contains}
@@ -44,15 +44,15 @@ pub record IsInTree (axioms : List Axiom) (t : Role) (word : List Role) : Type 0
   pub is_first : word ≡ t ∷ rest
   pub follows : Follows axioms t rest
 
--- a set folds into the tree of a role: its members stand at words of the tree, all else at the root, and each atom with
--- a member holds
-pub record FoldsBy (axioms : List Axiom) (q : Query) (s : ℕ → Bool) (t : Role) (words : ℕ → List Role) : Type 0 where
+-- a set is a tree witness that a role generates: its members stand at words of the role's tree, all else at the root, and
+-- each atom with a member holds
+pub record IsTreeWitness (axioms : List Axiom) (q : Query) (s : ℕ → Bool) (t : Role) (words : ℕ → List Role) : Type 0 where
   pub outside : (v : ℕ) → s v ≡ false → words v ≡ []
   pub inside : (v : ℕ) → s v ≡ true → IsInTree axioms t (words v)
   pub atoms : (a : Atom) → Contains q.atoms a → touches s a ≡ true → AtomHoldsAtWords axioms words a
 
--- a role of a set: one of the hierarchy's, into whose tree the set folds
-pub record IsRoleOfSet (axioms : List Axiom) (roles : List Role) (q : Query) (s : ℕ → Bool) (t : Role) : Type 0 where
+-- a generating role of a set: one of the hierarchy that generates it as a tree witness
+pub record IsGeneratingRole (axioms : List Axiom) (roles : List Role) (q : Query) (s : ℕ → Bool) (t : Role) : Type 0 where
   pub in_hierarchy : Contains roles t
   pub words : ℕ → List Role
-  pub folds : FoldsBy axioms q s t words
+  pub folds : IsTreeWitness axioms q s t words

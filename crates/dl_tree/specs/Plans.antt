@@ -10,7 +10,7 @@ use Rattle.dl_terms.specs.declared.query.Query.{Query}
 use Rattle.dl_hier.specs.Predicates.{roles}
 use Rattle.dl_hier.specs.Hierarchy.{Hierarchy, IsHierarchyOf}
 use Rattle.dl_tree.specs.Sets.{IsConnected}
-use Rattle.dl_tree.specs.Folds.{FoldsBy}
+use Rattle.dl_tree.specs.Folds.{IsTreeWitness}
 use Rattle.dl_tree.specs.Below.{MayFollow, FoldsBelow}
 use Rattle.dl_tree.specs.Masks.{set_of, AreLinkMasks}
 use Rattle.dl_tree.specs.Rows.{role_at, TellsRow}
@@ -39,7 +39,7 @@ pub record IsNext (h : Hierarchy) (axioms : List Axiom) (q : Query) (links : Lis
 -- a set folds into the tree of the role of a place
 abbrev pub FoldsAt : List Axiom → Query → List Role → ℕ → ℕ → Type 0
 FoldsAt axioms q roles s i =
-    (words : ℕ → List Role) × FoldsBy axioms q (set_of (existential_variables q) s) (role_at roles i) words
+    (words : ℕ → List Role) × IsTreeWitness axioms q (set_of (existential_variables q) s) (role_at roles i) words
 
 abbrev pub FoldsBelowAt : List Axiom → Query → List Role → ℕ → ℕ → Type 0
 FoldsBelowAt axioms q roles s i = FoldsBelow axioms q (set_of (existential_variables q) s) (role_at roles i)

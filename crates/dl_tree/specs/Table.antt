@@ -9,7 +9,7 @@ use Rattle.dl_terms.specs.declared.role.Role.{Role}
 use Rattle.dl_terms.specs.declared.axiom.Axiom.{Axiom}
 use Rattle.dl_terms.specs.declared.query.Query.{Query}
 use Rattle.dl_tree.specs.Sets.{IsConnected}
-use Rattle.dl_tree.specs.Folds.{IsRoleOfSet}
+use Rattle.dl_tree.specs.Folds.{IsGeneratingRole}
 use Rattle.dl_tree.specs.Masks.{set_of}
 
 -- the row of a number: ascending, exactly the roles into whose trees its set folds, where it stands for a connected set
@@ -18,7 +18,7 @@ pub record IsRowOf (axioms : List Axiom) (roles : List Role) (q : Query) (number
   pub ascending : IsStrictlySortedBy role_cmp row
   pub exact : (t : Role) → Contains row t ↔ ((number < 2 ^ length (existential_variables q))
       × IsConnected q (set_of (existential_variables q) number)
-      × IsRoleOfSet axioms roles q (set_of (existential_variables q) number) t)
+      × IsGeneratingRole axioms roles q (set_of (existential_variables q) number) t)
 
 -- a table has the row of each number below 256
 abbrev pub IsTableOf : List Axiom → List Role → Query → List (List Role) → Type 0

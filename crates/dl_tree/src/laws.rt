@@ -10,7 +10,7 @@ ghost use Rattle.dl_terms.specs.declared.axiom.Fact.{Fact};
 ghost use Rattle.dl_terms.specs.declared.query.Term.{Term};
 ghost use Rattle.dl_terms.specs.declared.query.Query.{Query};
 ghost use Rattle.dl_tree.specs.Sets.{IsConnected, IsOutsideNeighbour};
-ghost use Rattle.dl_tree.specs.Folds.{HoldsAtWord, JoinsWords, FoldsBy};
+ghost use Rattle.dl_tree.specs.Folds.{HoldsAtWord, JoinsWords, IsTreeWitness};
 ghost use Rattle.dl_tree.specs.Words.{beneath};
 ghost use Rattle.dl_tree.specs.Below.{minus, MayFollow, FoldsBelow, SplitsAt, SplitsAtSome, IsClosedIn};
 /// What lies below an element depends on the last role of its word alone: which words may follow,
@@ -47,12 +47,12 @@ pub fn one_name_and_one_first_role()
 /// Any other set folds below a role exactly where its parts do.
 pub fn folds_fall_apart()
     ensures splits { (axioms : List Axiom) (q : Query) (s : ℕ → Bool) (t : Role)
-        → ((words : ℕ → List Role) × FoldsBy axioms q s t words)
+        → ((words : ℕ → List Role) × IsTreeWitness axioms q s t words)
         ↔ ((m : ℕ → Bool) × SplitsAt axioms q s m t) }
     ensures connected { (axioms : List Axiom) (q : Query) (s : ℕ → Bool) (t : Role)
         → IsConnected q s → FoldsBelow axioms q s t
         ↔ ((u : Role) × MayFollow axioms t u
-        × ((words : ℕ → List Role) × FoldsBy axioms q s u words)) }
+        × ((words : ℕ → List Role) × IsTreeWitness axioms q s u words)) }
     ensures parts { (axioms : List Axiom) (q : Query) (part s : ℕ → Bool) (t : Role)
         → IsClosedIn q part s → FoldsBelow axioms q s t
         ↔ (FoldsBelow axioms q part t × FoldsBelow axioms q (minus s part) t) }
@@ -66,10 +66,10 @@ pub fn folds_fall_apart()
 pub fn topmost_members()
     ensures with_neighbours { (axioms : List Axiom) (q : Query) (s : ℕ → Bool) (t : Role) (u : Term)
         → IsOutsideNeighbour q s u
-        → ((words : ℕ → List Role) × FoldsBy axioms q s t words) ↔ SplitsAtSome axioms q s t }
+        → ((words : ℕ → List Role) × IsTreeWitness axioms q s t words) ↔ SplitsAtSome axioms q s t }
     ensures without_neighbours { (axioms : List Axiom) (q : Query) (s : ℕ → Bool)
         → ((u : Term) → IsOutsideNeighbour q s u → ⊥) → IsConnected q s → (bound : ℕ)
         → ((v : ℕ) → s v ≡ true → v < bound) → (t : Role)
-        → ((words : ℕ → List Role) × FoldsBy axioms q s t words)
+        → ((words : ℕ → List Role) × IsTreeWitness axioms q s t words)
         ↔ ((r : Role) × Chain (MayFollow axioms) t r × SplitsAtSome axioms q s r) }
 {}

@@ -2,7 +2,7 @@ use Rattle.std.proofs.Common.{◌≡◌, ◌==◌, ◌≤◌, not, false, [], le
 use Rattle.std.specs.List.{list_all}
 use Rattle.dl_tree.specs.TestsOf.{IsNumbering}
 use Rattle.dl_tree.proofs.NumberingLemmas.{numbering}
-use Rattle.dl_rewrite.specs.Steps.{pairs_of, probes_of, term_at, MakeOne, AreApart, AreTermsBelow}
+use Rattle.dl_rewrite.specs.Steps.{pairs_of, probes_of, term_at, AreMostGeneralUnifier, HaveNoUnifier, AreTermsBelow}
 use Rattle.dl_rewrite.proofs.CutLemmas.{some_fails, is_empty, none_folds}
 use Rattle.dl_rewrite.proofs.StepLemmas.{disjunct_for}
 use Rattle.dl_rewrite.proofs.ShapeLemmas.{pairs_below, is_shaped, none_merges}
@@ -24,8 +24,8 @@ returns-then-not-all_fold c = λ axioms roles table.
     let f = some_fails (λ m. not (length (slice_index_or rows m []) == 0)) parts all in
     none_folds axioms roles q ex rows c.requires.variables few table c.args.set parts c.in_ok-parts.ensures f.0 f.1 (is_empty (slice_index_or rows f.0 []) f.2)
 
-pub merged-requires : goal.merged-requires
-merged-requires c =
+pub unifier-requires : goal.unifier-requires
+unifier-requires c =
     let q = c.args.query.now in
     let ex = c.args.variables.now in
     let is : c.deref-3.result.now ≡ pairs_of ex q.atoms c.in_ok-parts.parts.items =
@@ -43,9 +43,9 @@ returns-in-Some c =
     let few : length ex ≤ 8 = subst (λ l. length l ≤ 8) (sym c.requires.variables) c.requires.query.existential in
     let is : c.deref-3.result.now ≡ pairs_of ex q.atoms parts =
     c.deref-3.ensures.value ∙ c.in_ok-pairs.ensures ∙ ap₂ (λ a p. pairs_of ex a p) c.as_slice.ensures c.deref-2.ensures.value in
-    let made : MakeOne q.vars c.deref-3.result.now to =
-    subst (λ o. MatchOption o (AreApart c.deref-3.result.now) (λ t. MakeOne q.vars c.deref-3.result.now t.items)) c.in-Some.is c.in_ok-to.ensures in
-    let make : MakeOne q.vars (pairs_of ex q.atoms parts) to = subst (λ ps. MakeOne q.vars ps to) is made in
+    let made : AreMostGeneralUnifier q.vars c.deref-3.result.now to =
+    subst (λ o. MatchOption o (HaveNoUnifier c.deref-3.result.now) (λ t. AreMostGeneralUnifier q.vars c.deref-3.result.now t.items)) c.in-Some.is c.in_ok-to.ensures in
+    let make : AreMostGeneralUnifier q.vars (pairs_of ex q.atoms parts) to = subst (λ ps. AreMostGeneralUnifier q.vars ps to) is made in
     let head : c.of.result ≡ map (term_at to) q.head =
     c.of.ensures ∙ c.in_ok-head-in-Some.ensures ∙ ap₂ (λ t h. map (term_at t) h) c.deref-in-Some.ensures.value c.as_slice-in-Some.ensures in
     let probes : c.in_ok-probes-in-Some.probes ≡ probes_of ex rows q.atoms c.args.set parts to =
@@ -62,6 +62,6 @@ returns c = λ axioms roles table.
     let parts = c.in_ok-parts.parts.items in
     let is : c.deref-3.result.now ≡ pairs_of ex q.atoms parts =
     c.deref-3.ensures.value ∙ c.in_ok-pairs.ensures ∙ ap₂ (λ a p. pairs_of ex a p) c.as_slice.ensures c.deref-2.ensures.value in
-    let apart : AreApart c.deref-3.result.now =
-    subst (λ o. MatchOption o (AreApart c.deref-3.result.now) (λ t. MakeOne q.vars c.deref-3.result.now t.items)) c.in-None.is c.in_ok-to.ensures in
-    none_merges axioms roles q ex c.requires.variables c.args.set parts c.in_ok-parts.ensures (subst AreApart is apart)
+    let apart : HaveNoUnifier c.deref-3.result.now =
+    subst (λ o. MatchOption o (HaveNoUnifier c.deref-3.result.now) (λ t. AreMostGeneralUnifier q.vars c.deref-3.result.now t.items)) c.in-None.is c.in_ok-to.ensures in
+    none_merges axioms roles q ex c.requires.variables c.args.set parts c.in_ok-parts.ensures (subst HaveNoUnifier is apart)

@@ -1,10 +1,10 @@
-// Terms made one, pair by pair, by terms that are put for variables.
+// Unification of pairs of terms, one pair after another, by terms that are put for variables.
 ghost use Rattle.std.specs.Prelude.{◌≡◌, ℕ, true, false, List, ◌∷◌, length, map, IfOk, MatchOption};
 ghost use Rattle.dl_terms.specs.declared.query.Term.{Term as T};
 ghost use Rattle.dl_terms.specs.declared.query.Term.TheVariants.{Var, Name as Named};
 ghost use Rattle.dl_tree.specs.Each.{IsEach};
-ghost use Rattle.dl_rewrite.specs.Merged.{put_for, replaced};
-ghost use Rattle.dl_rewrite.specs.Steps.{term_at, IsTermBelow, MakeOne, AreApart, AreTermsBelow};
+ghost use Rattle.dl_rewrite.specs.Unifiers.{put_for, replaced};
+ghost use Rattle.dl_rewrite.specs.Steps.{term_at, IsTermBelow, AreMostGeneralUnifier, HaveNoUnifier, AreTermsBelow};
 
 use dl_terms::Term;
 use std::alloc::{AllocError, Global};
@@ -29,16 +29,16 @@ pub(crate) fn term_at(to: &[Term], v: u8) -> Term
     Term::Var(v)
 }
 
-/// Terms for so many variables that make pairs of terms one and say no more, or none where two different names would
-/// have to be one.
-pub(crate) fn merged(
+/// A most general unifier of some pairs, as terms for so many variables, or none where two different names would have to
+/// be one.
+pub(crate) fn unifier(
     alloc: Global,
     vars: u8,
     pairs: &[(Term, Term)],
 ) -> Result<Option<Vec<Term>>, AllocError>
     requires { AreTermsBelow vars pairs.now }
     ensures { IfOk result (λ found.
-        MatchOption found (AreApart pairs.now) (λ to. MakeOne vars pairs.now to.items)) }
+        MatchOption found (HaveNoUnifier pairs.now) (λ to. AreMostGeneralUnifier vars pairs.now to.items)) }
 {
     let mut to = unchanged(alloc, vars)?;
     for pair in pairs {
@@ -62,10 +62,10 @@ fn unchanged(alloc: Global, vars: u8) -> Result<Vec<Term>, AllocError>
 
 /// Makes one more pair of terms one; false where two different names would have to be.
 fn unite(to: &mut [Term], pair: (Term, Term)) -> bool
-    ensures one { result ≡ true → (n : ℕ) (pairs : List (T × T)) → MakeOne n pairs to.old
-        → IsTermBelow n pair.0 → IsTermBelow n pair.1 → MakeOne n (pair ∷ pairs) to.new }
-    ensures apart { result ≡ false → (n : ℕ) (pairs : List (T × T)) → MakeOne n pairs to.old
-        → AreApart (pair ∷ pairs) }
+    ensures one { result ≡ true → (n : ℕ) (pairs : List (T × T)) → AreMostGeneralUnifier n pairs to.old
+        → IsTermBelow n pair.0 → IsTermBelow n pair.1 → AreMostGeneralUnifier n (pair ∷ pairs) to.new }
+    ensures apart { result ≡ false → (n : ℕ) (pairs : List (T × T)) → AreMostGeneralUnifier n pairs to.old
+        → HaveNoUnifier (pair ∷ pairs) }
 {
     let one = put(to, pair.0);
     let other = put(to, pair.1);

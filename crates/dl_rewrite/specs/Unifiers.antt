@@ -20,14 +20,16 @@ abbrev pub replaced : ℕ → Term → Term → Term
 replaced v r (Var w) = cond (nat_eq w v) r (Var w)
 replaced v r (Name a) = Name a
 
--- names make two terms one
-abbrev pub AreOne : (ℕ → ℕ) → Term × Term → Type 0
-AreOne names e = name_of names e.0 ≡ name_of names e.1
+-- an assignment of names unifies two terms
+abbrev pub AreUnified : (ℕ → ℕ) → Term × Term → Type 0
+AreUnified names e = name_of names e.0 ≡ name_of names e.1
 
--- terms put for the variables that make some pairs of terms one, and say no more
-pub record Merges (pairs : List (Term × Term)) (to : ℕ → Term) : Type 0 where
+-- terms put for the variables that are a most general unifier of some pairs of terms (Robinson: A machine-oriented logic
+-- based on the resolution principle, 1965): they unify each pair, and each assignment of names that unifies the pairs
+-- goes through them
+pub record IsMostGeneralUnifier (pairs : List (Term × Term)) (to : ℕ → Term) : Type 0 where
   pub one : (e : Term × Term) → Contains pairs e → put_for to e.0 ≡ put_for to e.1
-  pub no_more : (names : ℕ → ℕ) → ((e : Term × Term) → Contains pairs e → AreOne names e) → (v : ℕ)
+  pub no_more : (names : ℕ → ℕ) → ((e : Term × Term) → Contains pairs e → AreUnified names e) → (v : ℕ)
       → name_of names (to v) ≡ names v
 
 -- what is asked of names for an atom

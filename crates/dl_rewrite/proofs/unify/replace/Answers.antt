@@ -1,7 +1,7 @@
 use Rattle.std.proofs.Common.{◌<◌, length, add-one, arith}
-use Rattle.dl_rewrite.specs.Merged.{replaced}
+use Rattle.dl_rewrite.specs.Unifiers.{replaced}
 use Rattle.dl_rewrite.proofs.ListLemmas.{get_or-changed, set-changed}
-use Rattle.dl_rewrite.proofs.merge.replace.Goals as goal
+use Rattle.dl_rewrite.proofs.unify.replace.Goals as goal
 
 pub loop-term-preserved : goal.loop-term-preserved
 loop-term-preserved c =

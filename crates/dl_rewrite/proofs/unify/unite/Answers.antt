@@ -1,13 +1,13 @@
 use Rattle.std.proofs.Common.{◌∷◌, map, sym, subst, ◌∙◌}
-use Rattle.dl_rewrite.specs.Merged.{replaced}
-use Rattle.dl_rewrite.specs.Steps.{MakeOne}
-use Rattle.dl_rewrite.proofs.MergedLemmas.{left_put, name_one, name_apart}
-use Rattle.dl_rewrite.proofs.merge.unite.Goals as goal
+use Rattle.dl_rewrite.specs.Unifiers.{replaced}
+use Rattle.dl_rewrite.specs.Steps.{AreMostGeneralUnifier}
+use Rattle.dl_rewrite.proofs.UnifiedLemmas.{left_put, name_one, name_apart}
+use Rattle.dl_rewrite.proofs.unify.unite.Goals as goal
 
 pub returns-in-Var-clause-one : goal.returns-in-Var-clause-one
 returns-in-Var-clause-one c = λ yes n pairs h hx hy.
-    subst (MakeOne n (c.args.pair ∷ pairs)) (sym c.replace.ensures)
-    (subst (λ r. MakeOne n (c.args.pair ∷ pairs) (map (replaced c.in-Var.v r) c.args.to.now)) (sym c.put-other.ensures)
+    subst (AreMostGeneralUnifier n (c.args.pair ∷ pairs)) (sym c.replace.ensures)
+    (subst (λ r. AreMostGeneralUnifier n (c.args.pair ∷ pairs) (map (replaced c.in-Var.v r) c.args.to.now)) (sym c.put-other.ensures)
     (left_put n pairs c.args.to.now h c.args.pair.0 c.args.pair.1 hx hy c.in-Var.v (sym c.put-one.ensures ∙ c.in-Var.is)))
 
 pub returns-in-Name-clause-one : goal.returns-in-Name-clause-one

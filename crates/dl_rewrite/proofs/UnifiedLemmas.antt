@@ -8,18 +8,18 @@ use Rattle.dl_terms.specs.declared.query.Term.{Term}
 use Rattle.dl_terms.specs.declared.query.Term.TheVariants.{Var, Name}
 use Rattle.dl_terms.proofs.MemberLemmas.{Contains-first, Contains-later, Contains-nil, Contains-cons, Contains-one}
 use Rattle.dl_tree.proofs.FoldLemmas.{true_or_false, not_both}
-use Rattle.dl_rewrite.specs.Merged.{put_for, replaced, AreOne, Merges}
-use Rattle.dl_rewrite.specs.Steps.{term_at, IsTermBelow, MakeOne, AreApart}
-use Rattle.dl_rewrite.proofs.MergeLemmas.{Merges-none, Merges-same, Merges-put, Merges-clash}
+use Rattle.dl_rewrite.specs.Unifiers.{put_for, replaced, AreUnified, IsMostGeneralUnifier}
+use Rattle.dl_rewrite.specs.Steps.{term_at, IsTermBelow, AreMostGeneralUnifier, HaveNoUnifier}
+use Rattle.dl_rewrite.proofs.UnifierLemmas.{IsMostGeneralUnifier-none, IsMostGeneralUnifier-same, IsMostGeneralUnifier-put, IsMostGeneralUnifier-clash}
 
 -- pairs in another order
-pub Merges-among : (xs ys : List (Term × Term)) (to : ℕ → Term) → ((e : Term × Term) → Contains xs e → Contains ys e)
-    → ((e : Term × Term) → Contains ys e → Contains xs e) → Merges xs to → Merges ys to
-Merges-among xs ys to there back m =
+pub IsMostGeneralUnifier-among : (xs ys : List (Term × Term)) (to : ℕ → Term) → ((e : Term × Term) → Contains xs e → Contains ys e)
+    → ((e : Term × Term) → Contains ys e → Contains xs e) → IsMostGeneralUnifier xs to → IsMostGeneralUnifier ys to
+IsMostGeneralUnifier-among xs ys to there back m =
     record { one = λ e c. m.one e (back e c); no_more = λ names h v. m.no_more names (λ e c. h e (there e c)) v }
 
 -- the pair the other way round
-turned : (pairs : List (Term × Term)) (x y : Term) (to : ℕ → Term) → Merges ((y, x) ∷ pairs) to → Merges ((x, y) ∷ pairs) to
+turned : (pairs : List (Term × Term)) (x y : Term) (to : ℕ → Term) → IsMostGeneralUnifier ((y, x) ∷ pairs) to → IsMostGeneralUnifier ((x, y) ∷ pairs) to
 turned pairs x y to m = record { one = one; no_more = no_more }
   where
     one : (e : Term × Term) → Contains ((x, y) ∷ pairs) e → put_for to e.0 ≡ put_for to e.1
@@ -30,15 +30,15 @@ turned pairs x y to m = record { one = one; no_more = no_more }
             subst (λ g. put_for to g.0 ≡ put_for to g.1) h (sym (m.one (y, x) (Contains-first (y, x) pairs)))
         by (inr d) = m.one e (Contains-later (y, x) e pairs d)
 
-    no_more : (names : ℕ → ℕ) → ((e : Term × Term) → Contains ((x, y) ∷ pairs) e → AreOne names e) → (v : ℕ)
-        → AreOne names (to v, Var v)
+    no_more : (names : ℕ → ℕ) → ((e : Term × Term) → Contains ((x, y) ∷ pairs) e → AreUnified names e) → (v : ℕ)
+        → AreUnified names (to v, Var v)
     no_more names h v = m.no_more names other v
       where
-        other : (e : Term × Term) → Contains ((y, x) ∷ pairs) e → AreOne names e
+        other : (e : Term × Term) → Contains ((y, x) ∷ pairs) e → AreUnified names e
         other e c = by (Contains-cons (y, x) e pairs c)
           where
-            by : ((y, x) ≡ e) ⊎ Contains pairs e → AreOne names e
-            by (inl g) = subst (AreOne names) g (sym (h (x, y) (Contains-first (x, y) pairs)))
+            by : ((y, x) ≡ e) ⊎ Contains pairs e → AreUnified names e
+            by (inl g) = subst (AreUnified names) g (sym (h (x, y) (Contains-first (x, y) pairs)))
             by (inr d) = h e (Contains-later (x, y) e pairs d)
 
 -- ---- the list of terms
@@ -98,35 +98,35 @@ below-map n v r to h all = λ k d l.
 
 -- ---- one more pair
 
-module _ (n : ℕ) (pairs : List (Term × Term)) (to : List Term) (is : MakeOne n pairs to) (x y : Term)
+module _ (n : ℕ) (pairs : List (Term × Term)) (to : List Term) (is : AreMostGeneralUnifier n pairs to) (x y : Term)
     (hx : IsTermBelow n x) (hy : IsTermBelow n y) where
   put_one : (v : ℕ) (r : Term) → IsTermBelow n (Var v) → IsTermBelow n r
-      → Merges ((x, y) ∷ pairs) (λ w. replaced v r (term_at to w)) → MakeOne n ((x, y) ∷ pairs) (map (replaced v r) to)
+      → IsMostGeneralUnifier ((x, y) ∷ pairs) (λ w. replaced v r (term_at to w)) → AreMostGeneralUnifier n ((x, y) ∷ pairs) (map (replaced v r) to)
   put_one v r hv hr m = record {
     as_many = length-map (replaced v r) to ∙ is.as_many;
     below = below-map n v r to hr is.below;
-    merges = subst (Merges ((x, y) ∷ pairs)) (sym (put_in_all to v r (let e = is.as_many in omega (arith, e, hv)))) m;
+    unifies = subst (IsMostGeneralUnifier ((x, y) ∷ pairs)) (sym (put_in_all to v r (let e = is.as_many in omega (arith, e, hv)))) m;
   }
 
-  pub left_put : (v : ℕ) → put_for (term_at to) x ≡ Var v → MakeOne n ((x, y) ∷ pairs) (map (replaced v (put_for (term_at to) y)) to)
+  pub left_put : (v : ℕ) → put_for (term_at to) x ≡ Var v → AreMostGeneralUnifier n ((x, y) ∷ pairs) (map (replaced v (put_for (term_at to) y)) to)
   left_put v e =
       put_one v (put_for (term_at to) y) (subst (IsTermBelow n) e (below_put n to is.below is.as_many x hx)) (below_put n to is.below is.as_many y hy)
-      (Merges-put pairs (term_at to) x y v is.merges e)
+      (IsMostGeneralUnifier-put pairs (term_at to) x y v is.unifies e)
 
-  pub right_put : (a v : ℕ) → put_for (term_at to) x ≡ Name a → put_for (term_at to) y ≡ Var v → MakeOne n ((x, y) ∷ pairs) (map (replaced v (Name a)) to)
+  pub right_put : (a v : ℕ) → put_for (term_at to) x ≡ Name a → put_for (term_at to) y ≡ Var v → AreMostGeneralUnifier n ((x, y) ∷ pairs) (map (replaced v (Name a)) to)
   right_put a v e f =
       put_one v (Name a) (subst (IsTermBelow n) f (below_put n to is.below is.as_many y hy)) tt
       (turned pairs x y (λ w. replaced v (Name a) (term_at to w))
-      (subst (λ r. Merges ((y, x) ∷ pairs) (λ w. replaced v r (term_at to w))) e (Merges-put pairs (term_at to) y x v is.merges f)))
+      (subst (λ r. IsMostGeneralUnifier ((y, x) ∷ pairs) (λ w. replaced v r (term_at to w))) e (IsMostGeneralUnifier-put pairs (term_at to) y x v is.unifies f)))
 
-  pub same_put : put_for (term_at to) x ≡ put_for (term_at to) y → MakeOne n ((x, y) ∷ pairs) to
-  same_put e = record { as_many = is.as_many; below = is.below; merges = Merges-same pairs (term_at to) x y is.merges e }
+  pub same_put : put_for (term_at to) x ≡ put_for (term_at to) y → AreMostGeneralUnifier n ((x, y) ∷ pairs) to
+  same_put e = record { as_many = is.as_many; below = is.below; unifies = IsMostGeneralUnifier-same pairs (term_at to) x y is.unifies e }
 
-pub clash : (n : ℕ) (pairs : List (Term × Term)) (to : List Term) → MakeOne n pairs to → (x y : Term) (a b : ℕ)
-    → put_for (term_at to) x ≡ Name a → put_for (term_at to) y ≡ Name b → (a ≡ b → ⊥) → AreApart ((x, y) ∷ pairs)
-clash n pairs to is x y a b e f apart = Merges-clash pairs (term_at to) x y a b is.merges e f apart
+pub clash : (n : ℕ) (pairs : List (Term × Term)) (to : List Term) → AreMostGeneralUnifier n pairs to → (x y : Term) (a b : ℕ)
+    → put_for (term_at to) x ≡ Name a → put_for (term_at to) y ≡ Name b → (a ≡ b → ⊥) → HaveNoUnifier ((x, y) ∷ pairs)
+clash n pairs to is x y a b e f apart = IsMostGeneralUnifier-clash pairs (term_at to) x y a b is.unifies e f apart
 
-module _ (n : ℕ) (pairs : List (Term × Term)) (to new : List Term) (result : Bool) (is : MakeOne n pairs to) (x y other : Term) (name : ℕ)
+module _ (n : ℕ) (pairs : List (Term × Term)) (to new : List Term) (result : Bool) (is : AreMostGeneralUnifier n pairs to) (x y other : Term) (name : ℕ)
     (first : put_for (term_at to) x ≡ Name name) (second : put_for (term_at to) y ≡ other)
     (variable : (v : ℕ) → other ≡ Var v → (result ≡ true) × (new ≡ map (replaced v (Name name)) to))
     (named : (a : ℕ) → other ≡ Name a → (new ≡ to) × (result ≡ true → name ≡ a) × (result ≡ false → name ≡ a → ⊥)) where
@@ -134,20 +134,20 @@ module _ (n : ℕ) (pairs : List (Term × Term)) (to new : List Term) (result : 
   cases_of (Var v) = inl (v, refl)
   cases_of (Name a) = inr (a, refl)
 
-  pub name_one : IsTermBelow n x → IsTermBelow n y → result ≡ true → MakeOne n ((x, y) ∷ pairs) new
+  pub name_one : IsTermBelow n x → IsTermBelow n y → result ≡ true → AreMostGeneralUnifier n ((x, y) ∷ pairs) new
   name_one hx hy e = by (cases_of other)
     where
-      by : ((v : ℕ) × (other ≡ Var v)) ⊎ ((a : ℕ) × (other ≡ Name a)) → MakeOne n ((x, y) ∷ pairs) new
+      by : ((v : ℕ) × (other ≡ Var v)) ⊎ ((a : ℕ) × (other ≡ Name a)) → AreMostGeneralUnifier n ((x, y) ∷ pairs) new
       by (inl w) =
-          subst (MakeOne n ((x, y) ∷ pairs)) (sym (variable w.0 w.1).1) (right_put n pairs to is x y hx hy name w.0 first (second ∙ w.1))
+          subst (AreMostGeneralUnifier n ((x, y) ∷ pairs)) (sym (variable w.0 w.1).1) (right_put n pairs to is x y hx hy name w.0 first (second ∙ w.1))
       by (inr w) =
-          subst (MakeOne n ((x, y) ∷ pairs)) (sym (named w.0 w.1).0)
+          subst (AreMostGeneralUnifier n ((x, y) ∷ pairs)) (sym (named w.0 w.1).0)
           (same_put n pairs to is x y hx hy (first ∙ ap Name ((named w.0 w.1).1 e) ∙ sym (second ∙ w.1)))
 
-  pub name_apart : result ≡ false → AreApart ((x, y) ∷ pairs)
+  pub name_apart : result ≡ false → HaveNoUnifier ((x, y) ∷ pairs)
   name_apart e = by (cases_of other)
     where
-      by : ((v : ℕ) × (other ≡ Var v)) ⊎ ((a : ℕ) × (other ≡ Name a)) → AreApart ((x, y) ∷ pairs)
+      by : ((v : ℕ) × (other ≡ Var v)) ⊎ ((a : ℕ) × (other ≡ Name a)) → HaveNoUnifier ((x, y) ∷ pairs)
       by (inl w) = absurd (not_both (variable w.0 w.1).0 e)
       by (inr w) = clash n pairs to is x y name w.0 first (second ∙ w.1) ((named w.0 w.1).2 e)
 
@@ -156,11 +156,11 @@ module _ (n : ℕ) (pairs : List (Term × Term)) (to new : List Term) (result : 
 unchanged_at : (n : ℕ) (to : List Term) → IsEach (Name 0) n (λ v t. t ≡ Var v) to → (v : ℕ) → v < n → (d : Term) → get_or to v d ≡ Var v
 unchanged_at n to h v l d = get_or_default to v d (Name 0) (let e = h.as_many in omega (arith, e, l)) ∙ h.each v l
 
-pub MakeOne-none : (n : ℕ) (to : List Term) → IsEach (Name 0) n (λ v t. t ≡ Var v) to → MakeOne n [] to
-MakeOne-none n to h = record {
+pub AreMostGeneralUnifier-none : (n : ℕ) (to : List Term) → IsEach (Name 0) n (λ v t. t ≡ Var v) to → AreMostGeneralUnifier n [] to
+AreMostGeneralUnifier-none n to h = record {
   as_many = h.as_many;
   below = λ k d l. let m : k < n = (let e = h.as_many in omega (arith, e, l)) in subst (IsTermBelow n) (sym (unchanged_at n to h k m d)) m;
-  merges = subst (Merges []) (λ i v. sym (same v (cases v)) i) Merges-none;
+  unifies = subst (IsMostGeneralUnifier []) (λ i v. sym (same v (cases v)) i) IsMostGeneralUnifier-none;
 }
   where
     cases : (v : ℕ) → (v < n) ⊎ (n ≤ v)
@@ -170,10 +170,10 @@ MakeOne-none n to h = record {
     same v (inl l) = unchanged_at n to h v l (Var v)
     same v (inr l) = past to v (let e = h.as_many in omega (arith, e, l)) (Var v)
 
-pub MakeOne-among : (n : ℕ) (xs ys : List (Term × Term)) (to : List Term) → ((e : Term × Term) → Contains xs e → Contains ys e)
-    → ((e : Term × Term) → Contains ys e → Contains xs e) → MakeOne n xs to → MakeOne n ys to
-MakeOne-among n xs ys to there back h =
-    record { as_many = h.as_many; below = h.below; merges = Merges-among xs ys (term_at to) there back h.merges }
+pub AreMostGeneralUnifier-among : (n : ℕ) (xs ys : List (Term × Term)) (to : List Term) → ((e : Term × Term) → Contains xs e → Contains ys e)
+    → ((e : Term × Term) → Contains ys e → Contains xs e) → AreMostGeneralUnifier n xs to → AreMostGeneralUnifier n ys to
+AreMostGeneralUnifier-among n xs ys to there back h =
+    record { as_many = h.as_many; below = h.below; unifies = IsMostGeneralUnifier-among xs ys (term_at to) there back h.unifies }
 
 module _ (xs : List (Term × Term)) (x : Term × Term) where
   to_end : (e : Term × Term) → Contains (x ∷ xs) e → Contains (xs ++ x ∷ []) e
@@ -191,11 +191,11 @@ module _ (xs : List (Term × Term)) (x : Term × Term) where
       by (inr h) = subst (Contains (x ∷ xs)) (Contains-one x e h) (Contains-first x xs)
 
 -- one more of a list of pairs
-pub MakeOne-next : (n : ℕ) (pairs : List (Term × Term)) (i : ℕ) (d : Term × Term) (to : List Term) → i < length pairs
-    → MakeOne n (get_or pairs i d ∷ take i pairs) to → MakeOne n (take (i + 1) pairs) to
-MakeOne-next n pairs i d to l h =
-    subst (λ ps. MakeOne n ps to) (sym (take_more pairs i d l))
-    (MakeOne-among n (get_or pairs i d ∷ take i pairs) (take i pairs ++ get_or pairs i d ∷ []) to
+pub AreMostGeneralUnifier-next : (n : ℕ) (pairs : List (Term × Term)) (i : ℕ) (d : Term × Term) (to : List Term) → i < length pairs
+    → AreMostGeneralUnifier n (get_or pairs i d ∷ take i pairs) to → AreMostGeneralUnifier n (take (i + 1) pairs) to
+AreMostGeneralUnifier-next n pairs i d to l h =
+    subst (λ ps. AreMostGeneralUnifier n ps to) (sym (take_more pairs i d l))
+    (AreMostGeneralUnifier-among n (get_or pairs i d ∷ take i pairs) (take i pairs ++ get_or pairs i d ∷ []) to
     (to_end (take i pairs) (get_or pairs i d)) (to_front (take i pairs) (get_or pairs i d)) h)
 
 in_take : (xs : List (Term × Term)) (i : ℕ) (e : Term × Term) → Contains (take i xs) e → Contains xs e
@@ -208,12 +208,12 @@ in_take (x ∷ xs) (suc i) e c = by (Contains-cons x e (take i xs) c) (λ h. in_
     by (inr h) rest = Contains-later x e xs (rest h)
 
 -- some of the pairs can't be one
-pub AreApart-next : (pairs : List (Term × Term)) (i : ℕ) (d : Term × Term) → i < length pairs
-    → AreApart (get_or pairs i d ∷ take i pairs) → AreApart pairs
-AreApart-next pairs i d l h names one = h names (λ e c. by e (Contains-cons (get_or pairs i d) e (take i pairs) c))
+pub HaveNoUnifier-next : (pairs : List (Term × Term)) (i : ℕ) (d : Term × Term) → i < length pairs
+    → HaveNoUnifier (get_or pairs i d ∷ take i pairs) → HaveNoUnifier pairs
+HaveNoUnifier-next pairs i d l h names one = h names (λ e c. by e (Contains-cons (get_or pairs i d) e (take i pairs) c))
   where
-    by : (e : Term × Term) → (get_or pairs i d ≡ e) ⊎ Contains (take i pairs) e → AreOne names e
-    by e (inl f) = subst (AreOne names) f (one (get_or pairs i d) (i, l, get_or_default pairs i (get_or pairs i d) d l))
+    by : (e : Term × Term) → (get_or pairs i d ≡ e) ⊎ Contains (take i pairs) e → AreUnified names e
+    by e (inl f) = subst (AreUnified names) f (one (get_or pairs i d) (i, l, get_or_default pairs i (get_or pairs i d) d l))
     by e (inr f) = one e (in_take pairs i e f)
 
 -- a list that is written over as a whole
