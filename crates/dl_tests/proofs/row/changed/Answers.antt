@@ -1,6 +1,0 @@
-use Rattle.std.proofs.Common.{arith}
-use Rattle.dl_row.proofs.OrderedLemmas.{length-left_from_le}
-use Rattle.dl_tests.proofs.row.changed.Goals as goal
-
-pub with-requires-clause-fits : goal.with-requires-clause-fits
-with-requires-clause-fits c = let shorter = length-left_from_le 0 c.args.without.now c.args.shard.now in omega arith

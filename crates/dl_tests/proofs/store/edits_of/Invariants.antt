@@ -1,6 +1,0 @@
-use Rattle.std.specs.List.{All}
-use Rattle.dl_core.specs.Next.{ItemHasNoAuxiliary}
-use Rattle.dl_tests.proofs.store.edits_of.Given as goal
-
-abbrev pub invariant-loop-row : goal.invariant-loop-row
-invariant-loop-row l = All (λ e. ItemHasNoAuxiliary e.item) l.edits

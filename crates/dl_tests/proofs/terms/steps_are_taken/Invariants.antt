@@ -1,4 +1,0 @@
-use Rattle.dl_tests.proofs.terms.steps_are_taken.Given as goal
-
-abbrev pub ghosts-take_three : goal.ghosts-take_three
-ghosts-take_three a = record { name = a.blank.name; parts = a.blank.parts }
