@@ -1,6 +1,6 @@
 // The edges of the graphs of a hierarchy: a step of inclusion each.
 ghost use Rattle.std.specs.Prelude.{◌≡◌, ◌+◌, ◌*◌, ◌/◌, ◌++◌, ◌<◌, ◌≤◌, ◌^◌, ◌↔◌, ℕ, List as Items, map, length, slice_index_or, All, Contains, IfOk, OnOk};
-ghost use Rattle.dl_terms.specs.Roles.{named, inverse_of};
+ghost use Rattle.dl_terms.specs.Roles.{named};
 ghost use Rattle.dl_terms.specs.declared.role.Basic.TheVariants.{Class};
 ghost use Rattle.dl_reach.specs.Digraph.{EndsBelow, max_nodes};
 ghost use Rattle.dl_hier.specs.Predicates.{roles, basics, max_predicates};
@@ -27,7 +27,7 @@ pub(crate) fn role_edges(
     let mut edges = Vec::new(alloc);
     for (sub, sup) in rows {
         edges.push((node_of_role(nodes, *sub), node_of_role(nodes, *sup)))?;
-        let (one, other) = (inverse_of(*sub), inverse_of(*sup));
+        let (one, other) = (sub.inverse(), sup.inverse());
         edges.push((node_of_role(nodes, one), node_of_role(nodes, other)))?;
     }
     Ok(edges)
@@ -114,14 +114,4 @@ fn node_of_basic(nodes: &Nodes, basic: Basic) -> u32
     ensures { StandsAt (basics nodes.now) result basic }
 {
     nodes.basic(basic).unwrap()
-}
-
-/// The inverse of a role.
-pub(crate) fn inverse_of(role: Role) -> Role
-    ensures { result ≡ inverse_of role }
-{
-    Role {
-        base: role.base,
-        inverse: !role.inverse,
-    }
 }

@@ -14,7 +14,7 @@ ghost use Rattle.dl_hier.specs.Below.{IsBelowOneOf, AreThose};
 ghost use Rattle.dl_hier.specs.Picking.{AreTargets};
 
 use crate::below::{Below, names_leading, roles_reached};
-use crate::edges::{basic_edges, inverse_of, role_edges, ways};
+use crate::edges::{basic_edges, role_edges, ways};
 use crate::nodes::Nodes;
 use crate::ways::Ways;
 use dl_terms::{Basic, List, NoMemory, Normal, Role, Signature};
@@ -190,7 +190,7 @@ impl Hier {
             × ConceptBelow axioms (SomeOf (inverse_of role)) (SomeOf t))) }
     {
         let first = self.nodes.class_count();
-        match self.nodes.basic(Basic::SomeOf(inverse_of(role))) {
+        match self.nodes.basic(Basic::SomeOf(role.inverse())) {
             Some(from) => {
                 roles_reached(alloc, &self.basic_ways, from, self.roles.as_slice(), first)
             }

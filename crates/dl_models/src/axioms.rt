@@ -1,6 +1,5 @@
 // The axioms that a finite interpretation accepts.
 ghost use Rattle.std.specs.Prelude.{◌≡◌, ◌↔◌, IsTrue};
-ghost use Rattle.dl_terms.specs.Roles.{inverse_of};
 ghost use Rattle.dl_terms.specs.declared.axiom.Axiom.TheVariants.{InverseRoles, Domain, Range, Symmetric, Asymmetric};
 ghost use Rattle.dl_models.specs.Meaning.{Accepts};
 ghost use Rattle.dl_models.specs.Structures.{finite};
@@ -33,21 +32,11 @@ impl Interp {
     }
 }
 
-/// The inverse of a role.
-fn inverse_of(role: Role) -> Role
-    ensures { result ≡ inverse_of role }
-{
-    Role {
-        base: role.base,
-        inverse: !role.inverse,
-    }
-}
-
 /// Whether a role has the pairs of another, turned.
 fn are_inverse(model: &Interp, one: Role, two: Role) -> bool
     ensures { IsTrue result ↔ Accepts (finite model.now) (InverseRoles one two) }
 {
-    let inverse = inverse_of(two);
+    let inverse = two.inverse();
     let to = role_is_within(model, one, inverse);
     let back = role_is_within(model, inverse, one);
     to && back
@@ -64,7 +53,7 @@ fn domain_is_within(model: &Interp, role: Role, parts: &[Part]) -> bool
 fn range_is_within(model: &Interp, role: Role, parts: &[Part]) -> bool
     ensures { IsTrue result ↔ Accepts (finite model.now) (Range role parts.now) }
 {
-    let inverse = inverse_of(role);
+    let inverse = role.inverse();
     is_within_parts(model, Basic::SomeOf(inverse), parts)
 }
 
@@ -72,7 +61,7 @@ fn range_is_within(model: &Interp, role: Role, parts: &[Part]) -> bool
 fn is_symmetric(model: &Interp, role: Role) -> bool
     ensures { IsTrue result ↔ Accepts (finite model.now) (Symmetric role) }
 {
-    let inverse = inverse_of(role);
+    let inverse = role.inverse();
     role_is_within(model, role, inverse)
 }
 
@@ -80,6 +69,6 @@ fn is_symmetric(model: &Interp, role: Role) -> bool
 fn is_asymmetric(model: &Interp, role: Role) -> bool
     ensures { IsTrue result ↔ Accepts (finite model.now) (Asymmetric role) }
 {
-    let inverse = inverse_of(role);
+    let inverse = role.inverse();
     role_is_apart(model, role, inverse)
 }

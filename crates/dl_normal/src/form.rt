@@ -6,7 +6,7 @@ ghost use Rattle.dl_normal.specs.Indexed.{IsNormalForm};
 ghost use Rattle.dl_normal.specs.Growing.{Gains};
 
 use crate::operands::{push_pairs, push_ring};
-use crate::roles::{auxiliary_of, inverse_of};
+use crate::roles::auxiliary_of;
 use dl_terms::{Axiom, Basic, List, Negative, NoMemory, Normal, Part, Role};
 use std::alloc::Global;
 
@@ -44,21 +44,16 @@ fn push_axiom(normal: &mut Normal, index: u32, axiom: &Axiom) -> Result<(), NoMe
         Axiom::SubRole { sub, sup } => normal.roles.push((*sub, *sup)),
         Axiom::EquivalentRoles(roles) => push_ring(&mut normal.roles, roles.as_slice()),
         Axiom::DisjointRoles(roles) => push_pairs(&mut normal.negatives, index, roles.as_slice()),
-        Axiom::InverseRoles { one, two } => push_both(&mut normal.roles, *one, inverse_of(*two)),
+        Axiom::InverseRoles { one, two } => push_both(&mut normal.roles, *one, two.inverse()),
         Axiom::Domain { role, sup } => {
             push_parts(normal, index, Basic::SomeOf(*role), sup.as_slice())
         }
         Axiom::Range { role, sup } => {
-            push_parts(
-                normal,
-                index,
-                Basic::SomeOf(inverse_of(*role)),
-                sup.as_slice(),
-            )
+            push_parts(normal, index, Basic::SomeOf(role.inverse()), sup.as_slice())
         }
-        Axiom::Symmetric(role) => normal.roles.push((*role, inverse_of(*role))),
+        Axiom::Symmetric(role) => normal.roles.push((*role, role.inverse())),
         Axiom::Asymmetric(role) => {
-            let negative = Negative::Roles(*role, inverse_of(*role));
+            let negative = Negative::Roles(*role, role.inverse());
             normal.negatives.push((index, negative))
         }
         Axiom::Irreflexive(role) => normal.negatives.push((index, Negative::NoLoop(*role))),
@@ -109,6 +104,6 @@ fn push_fill(
     let auxiliary = auxiliary_of(role, class);
     normal.concepts.push((sub, Basic::SomeOf(auxiliary)))?;
     normal.roles.push((auxiliary, role))?;
-    let end = Basic::SomeOf(inverse_of(auxiliary));
+    let end = Basic::SomeOf(auxiliary.inverse());
     normal.concepts.push((end, Basic::Class(class)))
 }

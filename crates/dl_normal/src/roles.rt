@@ -1,18 +1,8 @@
 // Roles made of roles.
 ghost use Rattle.std.specs.Prelude.{◌≡◌};
-ghost use Rattle.dl_terms.specs.Roles.{inverse_of, auxiliary_of};
+ghost use Rattle.dl_terms.specs.Roles.{auxiliary_of};
 
 use dl_terms::{Base, Role};
-
-/// The inverse of a role.
-pub(crate) fn inverse_of(role: Role) -> Role
-    ensures { result ≡ inverse_of role }
-{
-    Role {
-        base: role.base,
-        inverse: !role.inverse,
-    }
-}
 
 /// The auxiliary role of a role and a class. That of an auxiliary role's role, which no axiom has, is that auxiliary role itself.
 pub(crate) fn auxiliary_of(role: Role, class: u32) -> Role

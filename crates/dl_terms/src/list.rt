@@ -84,9 +84,7 @@ impl<T: Drop> List<T> {
         ensures ok { OnOk result (self.new ≡ self.old ++ item ∷ []) }
         ensures err { OnErr result (self.new ≡ self.old) }
     {
-        let Ok(()) = self.items.push(item) else {
-            return Err(NoMemory);
-        };
+        self.items.push(item)?;
         Ok(())
     }
 }

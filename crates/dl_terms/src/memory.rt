@@ -1,4 +1,4 @@
-use std::alloc::AllocError;
+use std::alloc::{AllocError, AllocFailed};
 
 /// The answer for want of memory.
 #[derive(Clone, Copy, Debug, PartialEq, Eq)]
@@ -6,6 +6,12 @@ pub struct NoMemory;
 
 impl From<AllocError> for NoMemory {
     fn from(_refused: AllocError) -> NoMemory {
+        NoMemory
+    }
+}
+
+impl<T: Drop> From<AllocFailed<T>> for NoMemory {
+    fn from(_refused: AllocFailed<T>) -> NoMemory {
         NoMemory
     }
 }

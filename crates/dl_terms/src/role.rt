@@ -1,3 +1,6 @@
+ghost use Rattle.std.specs.Prelude.{◌≡◌};
+ghost use Rattle.dl_terms.specs.Roles.{named, inverse_of};
+
 use crate::List;
 
 /// A role name: one of the input, or the auxiliary role of a role and a class: a role below that role, which leads to
@@ -19,6 +22,28 @@ pub enum Base {
 pub struct Role {
     pub base: Base,
     pub inverse: bool,
+}
+
+impl Role {
+    /// An object property, by its number, as a role. It takes no memory.
+    pub fn named(property: u32) -> Role
+        ensures { result ≡ named property }
+    {
+        Role {
+            base: Base::Named(property),
+            inverse: false,
+        }
+    }
+
+    /// The inverse of the role; that of an inverse is the role itself. It takes no memory.
+    pub fn inverse(self) -> Role
+        ensures { result ≡ inverse_of self }
+    {
+        Role {
+            base: self.base,
+            inverse: !self.inverse,
+        }
+    }
 }
 
 /// A basic concept of DL-Lite_R: a class, or what has a neighbour by a role.

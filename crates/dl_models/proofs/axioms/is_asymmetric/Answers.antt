@@ -7,4 +7,4 @@ use Rattle.dl_models.proofs.axioms.is_asymmetric.Goals as goal
 pub returns : goal.returns
 returns c =
     same-test c.role_is_apart.result (asymmetries (finite c.args.model.now) c.args.role)
-    (subst (λ s. (c.role_is_apart.result ≡ true) ↔ RoleIsApart (finite c.args.model.now) c.args.role s) c.inverse_of-inverse.ensures c.role_is_apart.ensures)
+    (subst (λ s. (c.role_is_apart.result ≡ true) ↔ RoleIsApart (finite c.args.model.now) c.args.role s) c.inverse-inverse.ensures c.role_is_apart.ensures)

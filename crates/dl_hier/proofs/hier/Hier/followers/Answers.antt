@@ -17,7 +17,7 @@ pub returns-in-Some-clause-exact : goal.returns-in-Some-clause-exact
 returns-in-Some-clause-exact c =
     IfOk-weaker c.roles_reached.result _ _ (λ found picked axioms of t.
     after c.self.inside.nodes c.self.inside.roles c.self.inside.role_ways.graph c.self.inside.basic_ways.graph c.self.invariant.graphs c.args.self.now c.self.view_is axioms of _ c.in-Some.from
-    (subst (λ r. StandsAt (basics c.self.inside.nodes) c.in-Some.from (SomeOf r)) c.inverse_of.ensures c.in-Some.ensures) c.class_count-first.result c.class_count-first.ensures c.as_slice.result.now
+    (subst (λ r. StandsAt (basics c.self.inside.nodes) c.in-Some.from (SomeOf r)) c.inverse.ensures c.in-Some.ensures) c.class_count-first.result c.class_count-first.ensures c.as_slice.result.now
     found c.as_slice.ensures picked t)
     c.roles_reached.ensures
 
@@ -27,4 +27,4 @@ returns-in-None-clause-ascending c = sorted-none role_cmp c.new.result c.new.ens
 pub returns-in-None-clause-exact : goal.returns-in-None-clause-exact
 returns-in-None-clause-exact c = λ axioms of t.
     after_none c.self.inside.nodes c.self.inside.roles c.self.inside.role_ways.graph c.self.inside.basic_ways.graph c.self.invariant.graphs c.args.self.now c.self.view_is axioms of _
-    (subst (λ r. Contains (basics c.self.inside.nodes) (SomeOf r) → ⊥) c.inverse_of.ensures c.in-None.ensures) c.new.result c.new.ensures t
+    (subst (λ r. Contains (basics c.self.inside.nodes) (SomeOf r) → ⊥) c.inverse.ensures c.in-None.ensures) c.new.result c.new.ensures t
