@@ -1,6 +1,5 @@
 // What the atoms of a query ask of the roles of a hierarchy.
 ghost use Rattle.std.specs.Prelude.{◌≡◌, ℕ, ◌≤◌, length, List as Items, IfOk};
-ghost use Rattle.dl_terms.specs.Roles.{named};
 ghost use Rattle.dl_terms.specs.declared.axiom.Axiom.{Axiom};
 ghost use Rattle.dl_hier.specs.Predicates.{roles};
 ghost use Rattle.dl_hier.specs.Hierarchy.{IsHierarchyOf};
@@ -8,10 +7,9 @@ ghost use Rattle.dl_tree.specs.TestsOf.{IsRowsOf, AreRowsOf};
 
 use crate::atoms::AtomRows;
 use crate::bits::list_of;
-use crate::rows::inverse_of;
 use crate::variables::bit_of;
 use dl_hier::Hier;
-use dl_terms::{Atom, Base, Basic, List, NoMemory, Role};
+use dl_terms::{Atom, Basic, List, NoMemory, Role};
 use std::alloc::Global;
 
 /// What each atom asks of the roles.
@@ -55,18 +53,8 @@ fn rows_of_atom(
         Atom::Link { role, from, to } => Ok(AtomRows::Link {
             from: bit_of(variables, from),
             to: bit_of(variables, to),
-            out: list_of(alloc, hier.bits_below(inverse_of(named(role))), places)?,
-            into: list_of(alloc, hier.bits_below(named(role)), places)?,
+            out: list_of(alloc, hier.bits_below(Role::named(role).inverse()), places)?,
+            into: list_of(alloc, hier.bits_below(Role::named(role)), places)?,
         }),
-    }
-}
-
-/// An object property as a role.
-fn named(property: u32) -> Role
-    ensures { result ≡ named property }
-{
-    Role {
-        base: Base::Named(property),
-        inverse: false,
     }
 }

@@ -2,7 +2,6 @@
 ghost use Rattle.std.specs.Prelude.{◌≡◌, ℕ, ◌*◌, ◌<◌, ◌≤◌, ◌⊎◌, false, length, slice_index_or, List as Items, IfOk, MatchOption};
 ghost use Rattle.std.specs.List.Sorted.{IsStrictlySortedBy};
 ghost use Rattle.dl_terms.specs.Order.{role_cmp};
-ghost use Rattle.dl_terms.specs.Roles.{inverse_of};
 ghost use Rattle.dl_terms.specs.declared.axiom.Axiom.{Axiom};
 ghost use Rattle.dl_hier.specs.Predicates.{roles};
 ghost use Rattle.dl_hier.specs.Hierarchy.{IsHierarchyOf};
@@ -92,16 +91,6 @@ fn pending_from(row: &[u64], done: &[bool], start: usize) -> Option<usize>
         i = k + 1;
     }
     None
-}
-
-/// The inverse of a role.
-pub(crate) fn inverse_of(role: Role) -> Role
-    ensures { result ≡ inverse_of role }
-{
-    Role {
-        base: role.base,
-        inverse: !role.inverse,
-    }
 }
 
 /// The roles of which a row has the bit.

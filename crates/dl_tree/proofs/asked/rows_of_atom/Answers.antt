@@ -25,7 +25,7 @@ returns-in_ok-list_of-in-Link-2 c = λ axioms of i l.
       c.bit_of-in-Link.ensures,
       c.bit_of-in-Link-2.ensures,
       then (c.in_ok-list_of-in-Link.ensures.each i place)
-          (subst (λ r. (row_has c.bits_below.result.now i ≡ true) ↔ RoleBelow axioms t r) (c.inverse_of.ensures ∙ ap inverse_of c.named.ensures)
+          (subst (λ r. (row_has c.bits_below.result.now i ≡ true) ↔ RoleBelow axioms t r) (c.inverse.ensures ∙ ap inverse_of c.named.ensures)
           (c.bits_below.ensures axioms of i l)),
       then (c.in_ok-list_of-in-Link-2.ensures.each i place)
           (subst (λ r. (row_has c.bits_below-in-Link.result.now i ≡ true) ↔ RoleBelow axioms t r) c.named-in-Link.ensures
