@@ -1,7 +1,7 @@
 -- Laws of a sink that gathers: calls in a row, and what is left once nothing is gathered.
 use Rattle.std.proofs.Common.{◌≡◌, ℕ, zero, suc, ◌+◌, ◌≤◌, List, [], ◌∷◌, ◌++◌, length, take, drop, Option, None, Some, sym, ap, subst, ◌∙◌, refl, arith, append_assoc, length-append, take_all}
 use Rattle.std.proofs.lemmas.List.{append-nil, append_cancel_left, length-take-le, take-append-le, take-append-drop}
-use Rattle.std.proofs.Math.Seq.{take-append-add}
+use Rattle.std.proofs.Math.Seq.{take-append-add, take-append_seam}
 use Rattle.dl_io.specs.Writing.{Gets, GetsPrefix}
 use Rattle.dl_io.specs.Gathering.{Gathered, with_gathered, Takes, TakesPrefix}
 use Rattle.dl_io.proofs.Got.{Gets-append}
@@ -120,3 +120,27 @@ GetsPrefix-gathered before now gathered bytes (n, within, takes) =
     let m = takes.handed.0 in
     let fits : m ≤ n = omega (arith, takes.handed.1, length-take-le n bytes within) in
     (m, omega arith, subst (Gets before now) (take_take m n bytes fits) takes.handed.2)
+
+-- ---- what was printed through a sink that gathers
+
+-- once nothing is gathered, the sink itself got all
+pub Gets-handed : (before now : Option (List ℕ)) (bytes : List ℕ) → Gets (with_gathered before []) (with_gathered now []) bytes → Gets before now bytes
+Gets-handed before None bytes gets = tt
+Gets-handed None (Some now) bytes gets = gets
+Gets-handed (Some before) (Some now) bytes gets = sym (append-nil now) ∙ gets ∙ ap (λ x. x ++ bytes) (append-nil before)
+
+-- a front of some bytes is as many first bytes of them
+front_taken : (handed rest bytes : List ℕ) → handed ++ rest ≡ bytes → handed ≡ take (length handed) bytes
+front_taken handed rest bytes is = sym (take-append_seam handed rest) ∙ ap (take (length handed)) is
+
+-- and at any time it got some first bytes, where it only got more
+pub GetsPrefix-handed : (before now : Option (List ℕ)) (gathered bytes : List ℕ) → GetsPrefix (with_gathered before []) (with_gathered now gathered) bytes
+    → ((more : List ℕ) × Gets before now more) → GetsPrefix before now bytes
+GetsPrefix-handed before None gathered bytes gets grows = (0, omega arith, tt)
+GetsPrefix-handed None (Some now) gathered bytes (n, within, gets) grows = absurd gets
+GetsPrefix-handed (Some before) (Some now) gathered bytes (n, within, gets) (more, grown) =
+    let all : more ++ gathered ≡ take n bytes =
+    append_cancel_left before _ _
+    (sym (append_assoc before more gathered) ∙ ap (λ x. x ++ gathered) (sym grown) ∙ gets ∙ ap (λ x. x ++ take n bytes) (append-nil before)) in
+    let fits : length more ≤ n = omega (arith, ap length all, length-append more gathered, length-take-le n bytes within) in
+    (length more, omega arith, grown ∙ ap (λ x. before ++ x) (front_taken more gathered (take n bytes) all ∙ take_take (length more) n bytes fits))

@@ -3,3 +3,6 @@ pub mod Pieces
 pub mod Answered
 pub mod Different
 pub mod Gathered
+pub mod Lent
+pub mod PrintLemmas
+pub mod Handed

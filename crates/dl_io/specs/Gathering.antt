@@ -1,5 +1,6 @@
 -- A sink with bytes that are gathered for it.
 use Rattle.std.specs.Prelude.{ℕ, ◌≤◌, List, ◌++◌, length, take, Option, None, Some}
+use Rattle.dl_io.specs.Lending.{Lender}
 use Rattle.dl_io.specs.Writing.{Gets, GetsPrefix}
 use Rattle.dl_io.specs.declared.gathering.GatheringSink.{GatheringSink}
 
@@ -25,3 +26,11 @@ TakesPrefix before now bytes = (n : ℕ) × (n ≤ length bytes) × Takes before
 -- the state of a sink that gathers, where this is what the other sink tells
 abbrev pub state_of : {S : Type 0} → (S → Option (List ℕ)) → GatheringSink S → Gathered
 state_of got sink = record { got = got sink.sink.now; gathered = sink.gathered.now.items }
+
+-- what a sink that gathers got: what the other sink tells that it got, and then what is gathered
+abbrev pub all_got : {S : Type 0} → (S → Option (List ℕ)) → GatheringSink S → Option (List ℕ)
+all_got got sink = with_gathered (got sink.sink.now) sink.gathered.now.items
+
+-- who lent it the other sink
+abbrev pub lender_of : {S : Type 0} → (S → Option (List ℕ)) → GatheringSink S → Option Lender
+lender_of got sink = Some (record { name = sink.sink.ghost_name; got = got sink.sink.now })

@@ -2,6 +2,8 @@ pub mod Count
 pub mod Shared
 pub mod Reading
 pub mod Writing
+pub mod Lending
+pub mod Printing
 pub mod Gathering
 pub mod Files
 pub mod Buffer

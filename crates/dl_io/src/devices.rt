@@ -1,5 +1,6 @@
 ghost use Rattle.std.specs.Prelude.{ℕ, ◌≡◌, ◌<◌, ◌≤◌, List, [], length, take, IfOk, OnErr, IfSome, Option};
 ghost use Rattle.dl_io.specs.Count.{HasRisen, NoneFalls};
+ghost use Rattle.dl_io.specs.Lending.{Lender, StaysLent};
 ghost use Rattle.dl_io.specs.Reading.{Copies, EndsAt};
 ghost use Rattle.dl_io.specs.Writing.{Gets};
 
@@ -33,12 +34,14 @@ pub trait Library {
             (HasRisen (faults self.old name.now) (faults self.new name.now)) };
 }
 
-/// What takes bytes.
+/// What takes bytes. A write keeps who lent the sink what it hands on to.
 pub trait Sink {
     // The bytes that the sink got so far, where it tells them.
     ghost got: { Self → Option (List ℕ) };
     // How many faults there were so far. The count never falls.
     ghost faults: { Self → ℕ };
+    // Who lent the sink the one that it hands on to, if it hands on to one.
+    ghost lent: { Self → Option Lender };
 
     /// Takes the first bytes of a piece, and answers how many: at least one where the piece isn't
     /// empty. `Failed` comes only where the count of faults rose, or stands at its last value. A
@@ -50,5 +53,6 @@ pub trait Sink {
             Gets (got self.old) (got self.new) (take n piece.now)) }
         ensures nothing { OnErr result (Gets (got self.old) (got self.new) []) }
         ensures count { faults self.old ≤ faults self.new }
+        ensures lent { StaysLent (lent self.old) (lent self.new) }
         ensures failed { OnErr result (HasRisen (faults self.old) (faults self.new)) };
 }

@@ -124,6 +124,8 @@ impl Sink for MemorySink {
 
     ghost faults = { λ sink. sink.faults };
 
+    ghost lent = { λ _. None };
+
     fn write(&mut self, piece: &[u8]) -> Result<usize, Failed>
         ensures fails { IsErr result ↔ FailsNext self.old.schedule }
         ensures ok { IfOk result (λ n. n ≡ length piece.now) }

@@ -2,7 +2,8 @@
 ghost use Rattle.std.specs.Prelude.{◌≡◌, ◌≤◌, ◌+◌, ◌++◌, [], length, drop, vec_len, vec_capacity, IfOk, OnOk, OnErr, IsTrue, not};
 ghost use Rattle.dl_io.specs.Count.{HasRisen};
 ghost use Rattle.dl_io.specs.Writing.{Gets, GetsPrefix};
-ghost use Rattle.dl_io.specs.Gathering.{with_gathered, state_of, Takes, TakesPrefix};
+ghost use Rattle.dl_io.specs.Gathering.{state_of, Takes, TakesPrefix, all_got, lender_of};
+ghost use Rattle.dl_io.specs.Printing.{Prints};
 
 use crate::devices::{Failed, Sink};
 use crate::writing::{write_all, write_some};
@@ -60,6 +61,10 @@ impl<'a, S: Sink> GatheringSink<'a, S> {
         ensures count { S.faults self.old.sink.now ≤ S.faults self.new.sink.now }
         ensures failed { OnErr result
             (HasRisen (S.faults self.old.sink.now) (S.faults self.new.sink.now)) }
+
+        // So as a sink it got nothing more.
+        ensures printed { Prints (all_got S.got) (λ sink. S.faults sink.sink.now) (lender_of S.got)
+            result self.old self.new [] }
     {
         hand_on(self.sink, self.gathered)
     }
@@ -121,9 +126,11 @@ fn drop_front(buffer: &mut Vec<u8>, n: usize)
 }
 
 impl<S: Sink> Sink for GatheringSink<'_, S> {
-    ghost got = { λ s. with_gathered (S.got s.sink.now) s.gathered.now.items };
+    ghost got = { all_got S.got };
 
     ghost faults = { λ s. S.faults s.sink.now };
+
+    ghost lent = { lender_of S.got };
 
     fn write(&mut self, piece: &[u8]) -> Result<usize, Failed> {
         if self.make_room(piece.len())? {

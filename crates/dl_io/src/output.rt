@@ -32,6 +32,8 @@ impl<P: Print> Sink for OutSink<'_, P> {
 
     ghost faults = { λ sink. sink };
 
+    ghost lent = { λ _. None };
+
     fn write(&mut self, piece: &[u8]) -> Result<usize, Failed>
         ensures fits { IfOk result (λ n. n ≤ length piece.now) }
         ensures some { IfOk result (λ n. 0 < length piece.now → 0 < n) }

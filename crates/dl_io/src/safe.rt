@@ -1,4 +1,4 @@
-ghost use Rattle.std.specs.Prelude.{ℕ, ◌≡◌, ◌≤◌, List, [], length, Option, Some, Ok, vec_capacity, option_copied, false};
+ghost use Rattle.std.specs.Prelude.{ℕ, ◌≡◌, ◌≤◌, List, [], length, Option, Some, None, Ok, vec_capacity, option_copied, false};
 ghost use Rattle.dl_io.specs.Files.{files_of, file_at, bytes_of, HaveDifferentNames, part_of, with_front};
 ghost use Rattle.dl_io.specs.Buffer.{Buffer, told_bytes, after_piece};
 
@@ -112,6 +112,8 @@ impl Sink for SafeSink {
     ghost got = { λ sink. told_bytes sink };
 
     ghost faults = { λ _. 0 };
+
+    ghost lent = { λ _. None };
 
     fn write(&mut self, piece: &[u8]) -> Result<usize, Failed>
         ensures ok { result ≡ Ok (length piece.now) }

@@ -1,4 +1,4 @@
-ghost use Rattle.std.specs.Prelude.{ℕ, ◌≡◌, List, [], length, take, Some, Ok, min, vec_capacity, false};
+ghost use Rattle.std.specs.Prelude.{ℕ, ◌≡◌, List, [], length, take, Some, None, Ok, min, vec_capacity, false};
 ghost use Rattle.dl_io.specs.Files.{files_of, bytes_of, HaveDifferentNames, part_of, with_front};
 ghost use Rattle.dl_io.specs.Buffer.{Buffer, told_bytes, after_piece};
 
@@ -85,6 +85,8 @@ impl Sink for ShortSink {
     ghost got = { λ sink. told_bytes sink };
 
     ghost faults = { λ _. 0 };
+
+    ghost lent = { λ _. None };
 
     fn write(&mut self, piece: &[u8]) -> Result<usize, Failed>
         ensures ok { result ≡ Ok (min 1 (length piece.now)) }

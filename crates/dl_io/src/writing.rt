@@ -1,5 +1,6 @@
 ghost use Rattle.std.specs.Prelude.{◌≤◌, ◌<◌, length, take, OnOk, OnErr};
 ghost use Rattle.dl_io.specs.Count.{HasRisen};
+ghost use Rattle.dl_io.specs.Lending.{StaysLent};
 ghost use Rattle.dl_io.specs.Writing.{Gets, GetsPrefix};
 
 use crate::devices::{Failed, Sink};
@@ -9,6 +10,7 @@ pub fn write_all<S: Sink>(sink: &mut S, bytes: &[u8]) -> Result<(), Failed>
     ensures all { OnOk result (Gets (S.got sink.old) (S.got sink.new) bytes.now) }
     ensures prefix { OnErr result (GetsPrefix (S.got sink.old) (S.got sink.new) bytes.now) }
     ensures count { S.faults sink.old ≤ S.faults sink.new }
+    ensures lent { StaysLent (S.lent sink.old) (S.lent sink.new) }
     ensures failed { OnErr result (HasRisen (S.faults sink.old) (S.faults sink.new)) }
 {
     if write_some(sink, bytes) < bytes.len() {
@@ -22,6 +24,7 @@ pub(crate) fn write_some<S: Sink>(sink: &mut S, bytes: &[u8]) -> usize
     ensures fits { result ≤ length bytes.now }
     ensures got { Gets (S.got sink.old) (S.got sink.new) (take result bytes.now) }
     ensures count { S.faults sink.old ≤ S.faults sink.new }
+    ensures lent { StaysLent (S.lent sink.old) (S.lent sink.new) }
     ensures failed { result < length bytes.now → HasRisen (S.faults sink.old) (S.faults sink.new) }
 {
     let mut at = 0usize;

@@ -94,6 +94,8 @@ impl Sink for Pieces {
 
     ghost faults = { λ pieces. pieces.sink.faults };
 
+    ghost lent = { λ _. None };
+
     fn write(&mut self, piece: &[u8]) -> Result<usize, Failed> {
         let n = piece.len().min(self.most.max(1));
         self.sink.write(&piece[..n])

@@ -1,5 +1,6 @@
 use Rattle.std.proofs.Common.{◌≡◌, ◌-◌, length, take, drop, rules, arith, take_all, length-drop}
 use Rattle.dl_io.proofs.Got.{Gets-next}
+use Rattle.dl_io.proofs.Lent.{StaysLent-trans}
 use Rattle.dl_io.proofs.writing.write_some.Goals as goal
 
 pub loop-at-preserved : goal.loop-at-preserved
@@ -12,4 +13,8 @@ loop-at-preserved g c =
       within = search rules;
       got = Gets-next _ _ _ bytes c.loop-at.at c.in-Ok.n before.got (rw rest at called.appended);
       count = search rules;
+      lent = StaysLent-trans _ _ _ before.lent called.lent;
     }
+
+pub returns-in-Err-clause-lent : goal.returns-in-Err-clause-lent
+returns-in-Err-clause-lent g c = StaysLent-trans _ _ _ c.loop-at.invariant.lent c.in-Err.ensures.lent

@@ -1,5 +1,6 @@
 -- The sink got the bytes up to the place, and its count of faults didn't fall.
 use Rattle.std.proofs.Common.{length, ◌-◌, ◌≤◌, take}
+use Rattle.dl_io.specs.Lending.{StaysLent}
 use Rattle.dl_io.specs.Writing.{Gets}
 use Rattle.dl_io.proofs.writing.write_some.Given as goal
 
@@ -9,6 +10,7 @@ invariant-loop-at g l =
       within : l.at ≤ length l.bytes;
       got : Gets (g.S.Sink.got l.initial.sink) (g.S.Sink.got l.sink) (take l.at l.bytes);
       count : g.S.Sink.faults l.initial.sink ≤ g.S.Sink.faults l.sink;
+      lent : StaysLent (g.S.Sink.lent l.initial.sink) (g.S.Sink.lent l.sink);
     }
 
 abbrev pub decreases-loop-at : goal.decreases-loop-at

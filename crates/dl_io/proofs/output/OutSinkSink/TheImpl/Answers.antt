@@ -10,5 +10,6 @@ write-tells g c =
       appended = IfOk-each c.result _ (λ _. tt);
       nothing = OnErr-anyway c.result _ tt;
       count = c.ensures.count;
+      lent = tt;
       failed = HasRisen-counted c.result c.args.self.now c.new.self.now c.ensures.counted;
     }
