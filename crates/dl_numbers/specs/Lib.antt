@@ -1,3 +1,4 @@
 pub mod Rule
 pub mod DepthFirst
 pub mod Numbers
+pub mod Runs
