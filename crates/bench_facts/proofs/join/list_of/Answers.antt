@@ -4,7 +4,7 @@ use Rattle.std.specs.List.Sorted.{IsSorted, IsStrictlySortedBy}
 use Rattle.dl_join.specs.Disjuncts.{pair_cmp}
 use Rattle.dl_join.proofs.MergeLemmas.{sorted_at}
 use Rattle.dl_join.proofs.OrderLemmas.{pair_linear}
-use Rattle.bench_base.proofs.join.list_of.Goals as goal
+use Rattle.bench_facts.proofs.join.list_of.Goals as goal
 
 -- a set of pairs is sorted
 pairs_sorted : (pairs : List (ℕ × ℕ)) → IsStrictlySortedBy pair_cmp pairs → IsSorted pair_cmp pairs

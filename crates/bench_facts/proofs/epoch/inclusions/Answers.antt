@@ -3,7 +3,7 @@ use Rattle.std.specs.List.{All, Contains}
 use Rattle.std.proofs.lemmas.List.Elements.{All-weaker, All-push, All-contains, All-contains_itself}
 use Rattle.dl_terms.specs.Auxiliaries.{HasNoAuxiliary}
 use Rattle.dl_epoch.specs.Known.{IsAxiomIn}
-use Rattle.bench_base.proofs.epoch.inclusions.Goals as goal
+use Rattle.bench_facts.proofs.epoch.inclusions.Goals as goal
 
 -- what holds of each item of a list holds of each item of its set
 all_in : {A : Type 0} (P : A → Type 0) (set items : List A) → ((x : A) → Contains set x ↔ Contains items x) → All P items → All P set

@@ -1,16 +1,12 @@
-// Runs a base crate on an input that it makes, and prints counts. `bench/` times it from outside.
+// Runs a crate of axioms and queries on an input that it makes or reads, and prints counts. `bench/` times it from outside.
 #![tactic(auto)]
 
 mod disjuncts;
-mod epoch;
 mod hierarchy;
-mod join;
 mod lex;
 mod ontology;
 mod reach;
-mod rows;
 mod trees;
-mod triples;
 
 use std::process::ExitCode;
 use std::{env, io};
@@ -19,14 +15,10 @@ use std::{env, io};
 const WORDS: &[&str] = &[
     reach::WORDS,
     lex::WORDS,
-    triples::WORDS,
+    ontology::WORDS,
     hierarchy::WORDS,
     trees::WORDS,
     disjuncts::WORDS,
-    ontology::WORDS,
-    join::WORDS,
-    rows::WORDS,
-    epoch::WORDS,
 ];
 
 fn main(rt: HostRuntime) -> io::Result<ExitCode> {
@@ -37,21 +29,17 @@ fn main(rt: HostRuntime) -> io::Result<ExitCode> {
     let done = match words.first() {
         Some(word) if word.as_str() == "reach" => reach::run(&rt, &words)?,
         Some(word) if word.as_str() == "lex" => lex::run(&rt, &words)?,
-        Some(word) if word.as_str() == "triples" => triples::run(&rt, &words)?,
+        Some(word) if word.as_str() == "ontology" => ontology::run(&rt, &words)?,
         Some(word) if word.as_str() == "hierarchy" => hierarchy::run(&rt, &words)?,
         Some(word) if word.as_str() == "trees" => trees::run(&rt, &words)?,
         Some(word) if word.as_str() == "disjuncts" => disjuncts::run(&rt)?,
-        Some(word) if word.as_str() == "ontology" => ontology::run(&rt, &words)?,
-        Some(word) if word.as_str() == "join" => join::run(&rt, &words)?,
-        Some(word) if word.as_str() == "rows" => rows::run(&rt, &words)?,
-        Some(word) if word.as_str() == "epoch" => epoch::run(&rt, &words)?,
         _ => false,
     };
     if done {
         return Ok(ExitCode::SUCCESS);
     }
     for line in WORDS {
-        eprintln!(rt; "bench_base {}", *line)?;
+        eprintln!(rt; "bench_axioms {}", *line)?;
     }
     Ok(ExitCode::FAILURE)
 }
