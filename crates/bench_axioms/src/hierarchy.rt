@@ -6,8 +6,8 @@ use dl_terms::{Base, Basic, List, NoMemory, Normal, Role, Signature};
 use std::alloc::{AllocError, Global};
 use std::io;
 
-/// What `run` takes: as many classes as NAMES, and as many roles, of which half are auxiliary roles; how many inclusions of
-/// each kind; and how often to ask.
+/// What `run` takes: as many classes as NAMES, and as many roles, of which half are auxiliary roles; how many
+/// inclusions of each kind; and how often to ask.
 pub const WORDS: &str = "hierarchy deep|wide|tangle NAMES INCLUSIONS ASKS";
 
 /// Builds the hierarchy that the words say, asks it, and prints counts. False where the words say nothing, or a
@@ -81,7 +81,8 @@ fn signature_of(alloc: Global, names: u32) -> Result<Signature, NoMemory> {
     Ok(Signature { classes, roles })
 }
 
-/// The role of a number: an even one is an object property, and an odd one the auxiliary role of the property before it.
+/// The role of a number: an even one is an object property, and an odd one the auxiliary role of the property before
+/// it.
 fn role_of(number: u32, inverse: bool) -> Role {
     let base = if number % 2 == 0 {
         Base::Named(number)

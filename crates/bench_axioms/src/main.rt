@@ -1,4 +1,5 @@
-// Runs a crate of axioms and queries on an input that it makes or reads, and prints counts. `bench/` times it from outside.
+// Runs a crate of axioms and queries on an input that it makes or reads, and prints counts. `bench/` times it from
+// outside.
 #![tactic(auto)]
 
 mod disjuncts;

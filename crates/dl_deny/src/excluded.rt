@@ -7,8 +7,8 @@ use crate::copied::list_of;
 use dl_terms::{Atom, Base, Basic, List, Negative, NoMemory, Query, Role, Term};
 use std::alloc::Global;
 
-/// The query of a negative, without head, which is well formed. "Some r" has r(x, y), with a neighbour y of its own, and
-/// the inverse of a role its terms turned (Calvanese et al. 2007). Fails only for want of memory.
+/// The query of a negative, without head, which is well formed. "Some r" has r(x, y), with a neighbour y of its own,
+/// and the inverse of a role its terms turned (Calvanese et al. 2007). Fails only for want of memory.
 pub fn query_of(alloc: Global, negative: Negative) -> Result<Query, NoMemory>
     ensures value { IfOk result (λ query. query ≡ query_of negative) }
     ensures formed { IfOk result IsWellFormed }

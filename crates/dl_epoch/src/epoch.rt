@@ -49,9 +49,9 @@ impl Model for Epoch {
 }
 
 impl Epoch {
-    /// The epoch of axioms and a signature. The axioms ascend strictly in axiom order and have no auxiliary role; the signature
-    /// has all their names, and each of its lists ascends strictly; the weight is at most 65,536, and the names of the
-    /// signature and the auxiliary roles are at most 4,096. It fails only for want of memory.
+    /// The epoch of axioms and a signature. The axioms ascend strictly in axiom order and have no auxiliary role; the
+    /// signature has all their names, and each of its lists ascends strictly; the weight is at most 65,536, and the
+    /// names of the signature and the auxiliary roles are at most 4,096. It fails only for want of memory.
     pub fn build(
         alloc: Global,
         id: u32,
@@ -106,7 +106,8 @@ impl Epoch {
         &self.signature
     }
 
-    /// The hierarchy of its axioms, over the names of its signature and the auxiliary roles of the axioms. It takes no memory.
+    /// The hierarchy of its axioms, over the names of its signature and the auxiliary roles of the axioms. It takes no
+    /// memory.
     pub fn hier(&self) -> &Hier
         ensures { IsHierarchyIn self.now result.now }
     {

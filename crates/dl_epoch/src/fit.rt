@@ -13,8 +13,8 @@ use std::alloc::Global;
 pub const MAX_WEIGHT: u64 = 65_536;
 
 /// Whether the size of these and the order of the names are as `Epoch::build` asks: each list of the signature ascends
-/// strictly, the axioms weigh at most `MAX_WEIGHT`, and the names of the signature and the auxiliary roles of the axioms are at
-/// most `MAX_PREDICATES` of `dl_hier`. Fails only for want of memory.
+/// strictly, the axioms weigh at most `MAX_WEIGHT`, and the names of the signature and the auxiliary roles of the
+/// axioms are at most `MAX_PREDICATES` of `dl_hier`. Fails only for want of memory.
 pub fn fits(alloc: Global, axioms: &[Axiom], signature: &Signature) -> Result<bool, NoMemory>
     ensures { IfOk result (λ fit. IsTrue fit ↔ (IsSignature signature.now
         × (total_weight axioms.now ≤ max_weight) × ArePredicatesFew signature.now axioms.now)) }

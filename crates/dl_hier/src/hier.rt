@@ -98,8 +98,8 @@ impl Hier {
         }
     }
 
-    /// The roles of the hierarchy, ascending, each once: every object property of the signature and every auxiliary role that
-    /// the normal form names, each plain and inverse. It takes no memory.
+    /// The roles of the hierarchy, ascending, each once: every object property of the signature and every auxiliary
+    /// role that the normal form names, each plain and inverse. It takes no memory.
     pub fn roles(&self) -> &[Role]
         ensures roles { result.now ≡ roles self.now.predicates }
         ensures ascending { IsStrictlySortedBy role_cmp result.now }

@@ -15,8 +15,8 @@ use std::alloc::Global;
 use std::cmp::Ordering;
 use std::marker::Model;
 
-/// The classes and object properties of a signature, and the auxiliary roles of a normal form, each list ascending, beside
-/// guesses where an item stands.
+/// The classes and object properties of a signature, and the auxiliary roles of a normal form, each list ascending,
+/// beside guesses where an item stands.
 #[derive(Drop)]
 pub(crate) struct Nodes {
     classes: List<u32>,

@@ -52,9 +52,9 @@ fn push_filled_part(pairs: &mut List<(Role, u32)>, part: Part) -> Result<(), NoM
     }
 }
 
-/// The law of auxiliary roles: each role name in the rows of axioms that have no auxiliary role is one of the input, or the auxiliary role of
-/// a pair of role and class in a part "some role in class" of these axioms. So no more auxiliary roles are in the rows than
-/// `auxiliaries` counts.
+/// The law of auxiliary roles: each role name in the rows of axioms that have no auxiliary role is one of the input,
+/// or the auxiliary role of a pair of role and class in a part "some role in class" of these axioms. So no more
+/// auxiliary roles are in the rows than `auxiliaries` counts.
 pub fn auxiliaries_are_of_parts()
     ensures { (axioms : Items Axiom) → All HasNoAuxiliary axioms → (row : Row) →
         Contains (rows_of axioms) row → All (IsOfAxioms axioms) (row_bases row) }

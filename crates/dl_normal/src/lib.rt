@@ -1,5 +1,5 @@
-// The normal form of axioms: role inclusions, concept inclusions and negatives. Its size, and its auxiliary roles, without
-// making it.
+// The normal form of axioms: role inclusions, concept inclusions and negatives. Its size, and its auxiliary roles,
+// without making it.
 #![tactic(auto)]
 
 mod filled;

@@ -24,9 +24,9 @@ replaced v r (Name a) = Name a
 abbrev pub AreUnified : (ℕ → ℕ) → Term × Term → Type 0
 AreUnified names e = name_of names e.0 ≡ name_of names e.1
 
--- terms put for the variables that are a most general unifier of some pairs of terms (Robinson: A machine-oriented logic
--- based on the resolution principle, 1965): they unify each pair, and each assignment of names that unifies the pairs
--- goes through them
+-- terms put for the variables that are a most general unifier of some pairs of terms (Robinson: A machine-oriented
+-- logic based on the resolution principle, 1965): they unify each pair, and each assignment of names that unifies the
+-- pairs goes through them
 pub record IsMostGeneralUnifier (pairs : List (Term × Term)) (to : ℕ → Term) : Type 0 where
   pub one : (e : Term × Term) → Contains pairs e → put_for to e.0 ≡ put_for to e.1
   pub no_more : (names : ℕ → ℕ) → ((e : Term × Term) → Contains pairs e → AreUnified names e) → (v : ℕ)

@@ -57,7 +57,8 @@ pub fn certain_answers_split()
         × IsAnswerWhere axioms facts roles q s (parts_of s) tuple) }
 {}
 
-/// A most general unifier grows pair by pair, by a term put for a variable; two different names have none (Robinson 1965).
+/// A most general unifier grows pair by pair, by a term put for a variable; two different names have none (Robinson
+/// 1965).
 pub fn terms_unify()
     ensures none { IsMostGeneralUnifier [] Var }
     ensures same { (pairs : List (Term × Term)) (to : ℕ → Term) (x y : Term) → IsMostGeneralUnifier pairs to

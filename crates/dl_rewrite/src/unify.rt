@@ -29,8 +29,8 @@ pub(crate) fn term_at(to: &[Term], v: u8) -> Term
     Term::Var(v)
 }
 
-/// A most general unifier of some pairs, as terms for so many variables, or none where two different names would have to
-/// be one.
+/// A most general unifier of some pairs, as terms for so many variables, or none where two different names would have
+/// to be one.
 pub(crate) fn unifier(
     alloc: Global,
     vars: u8,

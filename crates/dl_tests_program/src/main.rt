@@ -1,5 +1,5 @@
-// Rows of the whole program as data, which this program reads and compares; and tests of what no row shows: faults, pieces
-// and want of memory.
+// Rows of the whole program as data, which this program reads and compares; and tests of what no row shows: faults,
+// pieces and want of memory.
 #![tactic(auto)]
 
 #[cfg(test)]

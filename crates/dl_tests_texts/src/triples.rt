@@ -239,8 +239,8 @@ fn last_line(text: &[u8]) -> u64 {
     n
 }
 
-/// Whether a prefix of the file has the value that its whole lines have: the last line is empty, a comment or ends with its dot.
-/// Else it is no triple.
+/// Whether a prefix of the file has the value that its whole lines have: the last line is empty, a comment or ends
+/// with its dot. Else it is no triple.
 fn is_read(alloc: Global, prefix: &[u8]) -> bool {
     let is_whole = prefix.len() <= 11 || prefix.ends_with(b"\n") || prefix.ends_with(b" .");
     let mut set = NameSet::new(alloc);

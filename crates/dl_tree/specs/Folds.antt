@@ -44,15 +44,17 @@ pub record IsInTree (axioms : List Axiom) (t : Role) (word : List Role) : Type 0
   pub is_first : word ≡ t ∷ rest
   pub follows : Follows axioms t rest
 
--- a set is a tree witness that a role generates: its members stand at words of the role's tree, all else at the root, and
--- each atom with a member holds
-pub record IsTreeWitness (axioms : List Axiom) (q : Query) (s : ℕ → Bool) (t : Role) (words : ℕ → List Role) : Type 0 where
+-- a set is a tree witness that a role generates: its members stand at words of the role's tree, all else at the root,
+-- and each atom with a member holds
+pub record IsTreeWitness (axioms : List Axiom) (q : Query) (s : ℕ → Bool) (t : Role) (words : ℕ → List Role)
+    : Type 0 where
   pub outside : (v : ℕ) → s v ≡ false → words v ≡ []
   pub inside : (v : ℕ) → s v ≡ true → IsInTree axioms t (words v)
   pub atoms : (a : Atom) → Contains q.atoms a → touches s a ≡ true → AtomHoldsAtWords axioms words a
 
 -- a generating role of a set: one of the hierarchy that generates it as a tree witness
-pub record IsGeneratingRole (axioms : List Axiom) (roles : List Role) (q : Query) (s : ℕ → Bool) (t : Role) : Type 0 where
+pub record IsGeneratingRole (axioms : List Axiom) (roles : List Role) (q : Query) (s : ℕ → Bool) (t : Role)
+    : Type 0 where
   pub in_hierarchy : Contains roles t
   pub words : ℕ → List Role
   pub folds : IsTreeWitness axioms q s t words
