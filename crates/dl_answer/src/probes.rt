@@ -2,7 +2,6 @@
 ghost use Rattle.std.specs.Prelude.{◌≡◌, ◌<◌, ◌≤◌, ◌^◌, ◌⊎◌, ◌↔◌, List as Items, [], length, IfOk, IsTrue};
 ghost use Rattle.std.specs.List.{Any};
 ghost use Rattle.std.specs.List.Sorted.{IsSorted};
-ghost use Rattle.dl_terms.specs.Roles.{named};
 ghost use Rattle.dl_terms.specs.declared.axiom.Axiom.{Axiom};
 ghost use Rattle.dl_terms.specs.declared.axiom.Fact.{Fact};
 ghost use Rattle.dl_hier.specs.Hierarchy.{IsHierarchyOf};
@@ -22,7 +21,7 @@ use crate::uneven::{Fewer, lists_by_fewer, which_has_fewer};
 use dl_core::Reads;
 use dl_hier::{Below, Hier};
 use dl_join::{JoinFault, join};
-use dl_terms::{Base, Disjunct, List, NoMemory, Pair, Probe, Role, Tuples};
+use dl_terms::{Disjunct, List, NoMemory, Pair, Probe, Role, Tuples};
 use std::alloc::Global;
 
 /// The tuples of a disjunct over names, each once, ascending. `TooMany` comes exactly where they are more than the
@@ -251,16 +250,6 @@ pub(crate) fn below_of(alloc: Global, hier: &Hier, probe: &Probe) -> Result<Belo
 {
     match probe {
         Probe::AnyOf { basics, .. } => hier.predicates_below(alloc, basics.as_slice()),
-        Probe::Joined { role, .. } => hier.roles_below(alloc, named(*role)),
-    }
-}
-
-/// An object property as a role.
-fn named(name: u32) -> Role
-    ensures { result ≡ named name }
-{
-    Role {
-        base: Base::Named(name),
-        inverse: false,
+        Probe::Joined { role, .. } => hier.roles_below(alloc, Role::named(*role)),
     }
 }
