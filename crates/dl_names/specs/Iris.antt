@@ -30,3 +30,7 @@ pub record IsName (text : List ℕ) : Type 0 where
 -- the class whose members no model has (OWL 2 Functional-Style Syntax)
 abbrev pub owl_nothing : List ℕ
 owl_nothing = codes "http://www.w3.org/2002/07/owl#Nothing"
+
+-- what says that an individual is in a class (RDF 1.1)
+abbrev pub rdf_type : List ℕ
+rdf_type = codes "http://www.w3.org/1999/02/22-rdf-syntax-ns#type"

@@ -7,7 +7,7 @@ use Rattle.std.specs.Str.{IsAscii}
 use Rattle.std.proofs.lemmas.Str.{IsUtf8-from_ascii}
 use Rattle.std.proofs.lemmas.Str.Ascii.{IsAscii-nil, IsAscii-cons}
 use Rattle.dl_names.specs.NameList.{Text, names_after, place_of, HasNoRepeats}
-use Rattle.dl_names.specs.Iris.{is_iri_byte, owl_nothing, IsIri, IsName}
+use Rattle.dl_names.specs.Iris.{is_iri_byte, owl_nothing, IsIri, IsName, rdf_type}
 use Rattle.dl_names.proofs.NameListLemmas.{has_name-slice_get, names_after-old, place_of-slice_get}
 use Rattle.dl_terms.specs.declared.axiom.Fact.{Fact}
 use Rattle.dl_terms.specs.declared.axiom.Fact.TheVariants.{Is, Link}
@@ -15,7 +15,7 @@ use Rattle.dl_terms.proofs.MemberLemmas.{both_true}
 use Rattle.dl_triples.specs.Lines.{is_line_byte, last}
 use Rattle.dl_triples.specs.Spelling.{Spells, nothing, plain}
 use Rattle.dl_triples.specs.Terms.{IsIriref, iri, empty, IsTriple}
-use Rattle.dl_triples.specs.Meaning.{rdf_type, kind_of, meaning_of_kinds, meaning_of, names_of, facts_of, skips, all_named}
+use Rattle.dl_triples.specs.Meaning.{kind_of, meaning_of_kinds, meaning_of, names_of, facts_of, skips, all_named}
 use Rattle.dl_triples.specs.Reading.{GivesTriple, triple, none, line, IsValue}
 use Rattle.dl_owl.specs.AxiomText.{iri_text}
 use Rattle.dl_stream.specs.ReadBack.{text_at, IsNamed, IsNamedClass, IsNamedFact}

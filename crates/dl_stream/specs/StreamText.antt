@@ -10,7 +10,7 @@ use Rattle.dl_terms.specs.declared.query.Term.TheVariants.{Var, Name}
 use Rattle.dl_terms.specs.declared.query.Atom.{Atom}
 use Rattle.dl_terms.specs.declared.query.Atom.TheVariants as atom
 use Rattle.dl_terms.specs.declared.query.Query.{Query}
-use Rattle.dl_triples.specs.Meaning.{rdf_type}
+use Rattle.dl_names.specs.Iris.{rdf_type}
 use Rattle.dl_owl.specs.AxiomText.{iri_text, axiom_text}
 use Rattle.dl_core.specs.declared.event.Edit.{Edit}
 use Rattle.dl_core.specs.declared.event.Item.{Item}

@@ -4,7 +4,7 @@ use Rattle.std.specs.Prelude.{ℕ, Bool, not, List, [], ◌∷◌, codes, Option
 use Rattle.std.specs.List.{list_any}
 use Rattle.std.specs.Str.{bytes_eq}
 use Rattle.dl_names.specs.NameList.{Text, names_after, place_of}
-use Rattle.dl_names.specs.Iris.{is_reserved, owl_nothing}
+use Rattle.dl_names.specs.Iris.{is_reserved, owl_nothing, rdf_type}
 use Rattle.dl_terms.specs.declared.axiom.Fact.{Fact}
 use Rattle.dl_terms.specs.declared.axiom.Fact.TheVariants.{Is, Link}
 use Rattle.dl_triples.specs.declared.meaning.Kind.{Kind}
@@ -24,9 +24,6 @@ annotation_properties =
     ∷ codes "http://www.w3.org/2002/07/owl#priorVersion"
     ∷ codes "http://www.w3.org/2002/07/owl#backwardCompatibleWith"
     ∷ codes "http://www.w3.org/2002/07/owl#incompatibleWith" ∷ []
-
-abbrev pub rdf_type : Text
-rdf_type = codes "http://www.w3.org/1999/02/22-rdf-syntax-ns#type"
 
 -- the classes that every individual is in: that one is in them says nothing
 abbrev pub universal_classes : List Text

@@ -1,8 +1,8 @@
 // What a triple says.
 ghost use Rattle.std.specs.Prelude.{◌≡◌};
 ghost use Rattle.std.specs.Str.{bytes_eq};
-ghost use Rattle.dl_names.specs.Iris.{owl_nothing};
-ghost use Rattle.dl_triples.specs.Meaning.{is_among, annotation_properties, rdf_type, universal_classes, kind_of, meaning_of_kinds};
+ghost use Rattle.dl_names.specs.Iris.{owl_nothing, rdf_type};
+ghost use Rattle.dl_triples.specs.Meaning.{is_among, annotation_properties, universal_classes, kind_of, meaning_of_kinds};
 
 use dl_names::is_reserved;
 

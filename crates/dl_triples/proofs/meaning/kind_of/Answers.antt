@@ -1,9 +1,9 @@
 use Rattle.std.proofs.Common.{◌≡◌, Bool, true, false, not, cond, sym, rules}
 use Rattle.std.specs.Str.{bytes_eq}
-use Rattle.dl_names.specs.Iris.{is_reserved, owl_nothing}
+use Rattle.dl_names.specs.Iris.{is_reserved, owl_nothing, rdf_type}
 use Rattle.dl_triples.specs.declared.meaning.Kind.{Kind}
 use Rattle.dl_triples.specs.declared.meaning.Kind.TheVariants as kinds
-use Rattle.dl_triples.specs.Meaning.{is_among, annotation_properties, rdf_type, universal_classes}
+use Rattle.dl_triples.specs.Meaning.{is_among, annotation_properties, universal_classes}
 use Rattle.dl_triples.proofs.meaning.kind_of.Goals as goal
 
 -- the kind by the tests
