@@ -1,5 +1,5 @@
 -- Lists of names: texts in the order in which they were first named. Places and their limit are this project's own.
-use Rattle.std.specs.Prelude.{ℕ, ◌≡◌, ◌≢◌, Bool, List, [], ◌∷◌, ◌++◌, if◌then◌else◌, AllPairs}
+use Rattle.std.specs.Prelude.{ℕ, ◌≡◌, ◌≢◌, Bool, not, ◌&&◌, nat_le, List, [], ◌∷◌, ◌++◌, length, if◌then◌else◌, AllPairs}
 use Rattle.std.specs.List.{list_any, position_or_len}
 use Rattle.std.specs.Str.{bytes_eq}
 
@@ -22,6 +22,10 @@ names_after names text = if has_name names text then names else names ++ text �
 -- the place of the text by first occurrence: how many names stand before it
 abbrev pub place_of : List Text → Text → ℕ
 place_of names text = position_or_len (bytes_eq text) names
+
+-- a name that isn't met yet has no place where there are as many as there may be
+abbrev pub has_no_place : List Text → Text → Bool
+has_no_place names text = not (has_name names text) && nat_le max_names (length names)
 
 -- no text stands at two places
 abbrev pub HasNoRepeats : List Text → Type 0

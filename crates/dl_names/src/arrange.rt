@@ -20,9 +20,7 @@ pub(crate) fn placed(texts: &IndexSet<String>) -> Result<Vec<(u64, &str, u32)>, 
     for (place, text) in texts.as_slice().iter().enumerate() {
         let text = text.as_str();
         let entry = (front(text.as_bytes(), skip), text, place as u32);
-        let Ok(()) = entries.push(entry) else {
-            return Err(NoMemory);
-        };
+        entries.push(entry)?;
     }
     Ok(entries)
 }
@@ -52,10 +50,7 @@ pub(crate) fn texts_of(entries: &Vec<(u64, &str, u32)>) -> Result<Vec<String>, N
     let alloc = *entries.allocator();
     let mut texts = Vec::with_capacity(alloc, entries.len())?;
     for entry in entries.iter() {
-        let text = String::from_str(alloc, entry.1)?;
-        let Ok(()) = texts.push(text) else {
-            return Err(NoMemory);
-        };
+        texts.push(String::from_str(alloc, entry.1)?)?;
     }
     Ok(texts)
 }

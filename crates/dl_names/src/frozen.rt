@@ -1,10 +1,7 @@
-ghost use Rattle.std.specs.Prelude.{◌≡◌, ◌<◌, ◌≤◌, ◌↔◌, ℕ, length, map, is_some, IsTrue, slice_get, slice_index, string_bytes, All};
+ghost use Rattle.std.specs.Prelude.{◌≡◌, ◌<◌, ◌≤◌, ◌↔◌, ℕ, length, map, is_some, IsTrue, slice_get, slice_index, string_bytes};
 ghost use Rattle.dl_names.specs.NameList.{max_names, has_name};
 ghost use Rattle.dl_names.specs.Frozen.{IsAscending};
-ghost use Rattle.dl_terms.specs.Occurring.{fact_names};
-ghost use Rattle.dl_terms.specs.Renamed.{renamed_fact};
 
-use dl_terms::Fact;
 use std::marker::Model;
 
 /// The names of a run in byte order, which is the order of `str`. The number of a name is its rank there, from 0 on.
@@ -102,34 +99,5 @@ impl Ranks {
         ensures { result ≡ slice_index self.now place }
     {
         self.ranks[place as usize]
-    }
-
-    /// Replaces each place that a fact names by its rank: facts over places become facts over numbers. The places
-    /// are ones that `NameSet::add` gave. It takes no memory.
-    pub fn rank_facts(&self, facts: &mut [Fact])
-        requires { All (λ fact. All (λ place. place < length self.now) (fact_names fact)) facts.old }
-        ensures { facts.new ≡ map (renamed_fact (slice_index self.now)) facts.old }
-    {
-        for fact in facts.iter_mut() {
-            *fact = self.ranked(*fact);
-        }
-    }
-
-    /// The fact over numbers.
-    fn ranked(&self, fact: Fact) -> Fact
-        requires { All (λ place. place < length self.now) (fact_names fact) }
-        ensures { result ≡ renamed_fact (slice_index self.now) fact }
-    {
-        match fact {
-            Fact::Is { class, who } => Fact::Is {
-                class: self.of(class),
-                who: self.of(who),
-            },
-            Fact::Link { role, from, to } => Fact::Link {
-                role: self.of(role),
-                from: self.of(from),
-                to: self.of(to),
-            },
-        }
     }
 }

@@ -78,9 +78,7 @@ impl Guesses {
 pub(crate) fn push(numbers: &mut Vec<u32>, number: u32) -> Result<(), NoMemory>
     ensures { OnOk result (numbers.new.items ≡ numbers.old.items ++ number ∷ []) }
 {
-    let Ok(()) = numbers.push(number) else {
-        return Err(NoMemory);
-    };
+    numbers.push(number)?;
     Ok(())
 }
 

@@ -1,7 +1,6 @@
 // The IRIs of names: their characters, and those that are reserved.
-ghost use Rattle.std.specs.Prelude.{◌≡◌, IfSome, IfNone, IsTrue};
-ghost use Rattle.std.specs.List.{list_all};
-ghost use Rattle.dl_names.specs.Iris.{is_iri_byte, is_reserved, IsName};
+ghost use Rattle.std.specs.Prelude.{◌≡◌};
+ghost use Rattle.dl_names.specs.Iris.{is_iri_byte, is_reserved, is_free, may_be_class};
 
 /// Whether a byte is a character of an IRI (an IRIREF of RDF 1.1 N-Triples), or a part of one that isn't ASCII.
 pub fn is_iri_byte(byte: u8) -> bool
@@ -24,17 +23,19 @@ pub fn is_reserved(iri: &[u8]) -> bool
         || iri.starts_with(b"http://www.w3.org/2001/XMLSchema#")
 }
 
-/// The characters of an IRI as the text of a name, or `None` exactly where they are no UTF-8 or the IRI is reserved.
-pub fn name_of(iri: &[u8]) -> Option<&str>
-    requires { IsTrue (list_all is_iri_byte iri.now) }
-    ensures found { IfSome result (λ name. (name.now ≡ iri.now) × IsName iri.now) }
-    ensures none { IfNone result (IsName iri.now → ⊥) }
+/// The IRI of the class whose members no model has (OWL 2 Functional-Style Syntax).
+pub const OWL_NOTHING: &str = "http://www.w3.org/2002/07/owl#Nothing";
+
+/// Whether an IRI may name an object property or an individual: it isn't reserved.
+pub fn is_free(iri: &str) -> bool
+    ensures { result ≡ is_free iri.now }
 {
-    if is_reserved(iri) {
-        return None;
-    }
-    match std::str::from_utf8(iri) {
-        Ok(name) => Some(name),
-        Err(_) => None,
-    }
+    !is_reserved(iri.as_bytes())
+}
+
+/// Whether an IRI may name a class: it isn't reserved, or it is that of `owl:Nothing`.
+pub fn may_be_class(iri: &str) -> bool
+    ensures { result ≡ may_be_class iri.now }
+{
+    is_free(iri) || OWL_NOTHING == iri
 }

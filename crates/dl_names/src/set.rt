@@ -149,12 +149,10 @@ impl NameSet {
         let mut known = Vec::with_capacity(*self.texts.allocator(), places.len())?;
         for place in places.iter() {
             let text = self.text_at(*place);
-            let Ok(()) = known.push(Known {
+            known.push(Known {
                 place: *place,
                 text,
-            }) else {
-                return Err(NoMemory);
-            };
+            })?;
         }
         Ok(known)
     }

@@ -1,6 +1,8 @@
 ghost use Rattle.std.specs.Prelude.{◌≡◌, ◌≤◌, length};
 
-use dl_names::{NameFault, NameSet, Names, Ranks, is_iri_byte, is_reserved, name_of};
+use dl_names::{
+    NameFault, NameSet, Names, OWL_NOTHING, Ranks, is_free, is_iri_byte, is_reserved, may_be_class,
+};
 use dl_terms::Fact;
 use std::alloc::Global;
 
@@ -234,7 +236,7 @@ fn iris_and_names(rt: HostRuntime) {
     assert!(rt; are_told_reserved(IRIS));
     assert!(rt; are_told(b"\x00\t\n\r <>\"{}|^`\\", false));
     assert!(rt; are_told(b"!#%&'()*+,-./09:;=?@AZ[]_az~\x7F\xC3\xA9", true));
-    assert!(rt; name_of(b"a:b").is_some());
-    assert!(rt; name_of(b"\xFF").is_none());
-    assert!(rt; name_of(b"http://www.w3.org/2002/07/owl#Thing").is_none());
+    assert!(rt; is_free("a:b") && may_be_class("a:b"));
+    assert!(rt; !is_free(OWL_NOTHING) && may_be_class(OWL_NOTHING));
+    assert!(rt; !may_be_class("http://www.w3.org/2002/07/owl#Thing"));
 }

@@ -11,7 +11,7 @@ loop-place-preserved c =
     let at : slice_get keys place ≡ Some c.text-item.result =
     subst (λ l. slice_get l place ≡ Some c.text-item.result) c.as_slice-text-items.ensures.keys (slice_get_read c.as_slice-text-items.result.now _ place c.text-item.result refl c.loop-place-test.true c.text-item.is) in
     let entry : Entry = (c.front.result, c.as_str-text.result, place) in
-    subst (λ l. ArePlaced c.alike-skip.result (take (place + 1) keys) l) (sym c.in-Ok.ensures.items)
+    subst (λ l. ArePlaced c.alike-skip.result (take (place + 1) keys) l) (sym c.in_ok-push.ensures.items)
     (ArePlaced-push c.alike-skip.result keys c.loop-place.entries.items place c.text-item.result entry at
     (subst (λ t. IsFronted c.alike-skip.result (c.front.result, record { ref_ptr = c.as_str-text.result.ref_ptr; now = t }, place)) c.as_bytes.ensures.value (record { number = c.front.ensures.number; bytes = c.front.ensures.bytes }))
     c.as_str-text.ensures.value refl c.loop-place.invariant)

@@ -8,4 +8,4 @@ loop-fact-preserved c =
     let i = c.loop-fact.fact-index in
     let f = renamed_fact (slice_index c.args.self.now) in
     let i_in : i < length c.args.facts.now = omega arith in
-    rw (c.ranked.ensures, c.loop-fact.invariant, get_or-changed f c.args.facts.now, add-one) (set-changed f c.args.facts.now i _ i_in)
+    rw (c.ranked_fact.ensures, c.loop-fact.invariant, get_or-changed f c.args.facts.now, add-one) (set-changed f c.args.facts.now i _ i_in)
