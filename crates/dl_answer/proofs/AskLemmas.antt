@@ -21,7 +21,7 @@ use Rattle.dl_core.specs.Held.{IsBookOf, IsSound}
 use Rattle.dl_core.specs.Legal.{Reader, ReaderStandsFor, pin_shown}
 use Rattle.dl_core.specs.Loading.{IsFactIn}
 use Rattle.dl_core.specs.declared.book.Book.{Book}
-use Rattle.dl_core.specs.declared.book.Pin.{Pin}
+use Rattle.dl_event.specs.declared.pin.Pin.{Pin}
 use Rattle.dl_core.proofs.GrowthLemmas.{axioms_stay, signature_stays}
 use Rattle.dl_core.proofs.EpochLemmas.{some_some}
 use Rattle.dl_core.proofs.PinnedEpochLemmas.{pin_within, entries_light}

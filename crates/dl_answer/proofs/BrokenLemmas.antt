@@ -25,7 +25,7 @@ use Rattle.dl_join.specs.declared.fault.JoinFault.{JoinFault}
 use Rattle.dl_join.specs.declared.fault.JoinFault.TheVariants as join
 use Rattle.dl_terms.specs.Table.{Table}
 use Rattle.dl_answer.specs.Replies.{AreOver, GivesTuples, RepliesTo}
-use Rattle.dl_core.specs.declared.answer.AskFault.{AskFault}
+use Rattle.dl_event.specs.declared.answer.AskFault.{AskFault}
 use Rattle.dl_terms.specs.Reply.{IsReply, inconsistent, found}
 use Rattle.dl_terms.specs.Reply.IsReply.{is_inconsistent, is_too_many, is_found}
 use Rattle.dl_answer.specs.declared.broken.Verdict.{Verdict}

@@ -2,7 +2,7 @@
 use Rattle.std.specs.Prelude.{◌≡◌, ℕ, ◌<◌, ◌≤◌, List, length, Result, Ok, Err}
 use Rattle.std.specs.declared.option.Option.{Option}
 use Rattle.dl_terms.specs.NormalForm.{role_inclusions, concept_inclusions}
-use Rattle.dl_terms.specs.Reply.{Reply, IsReply, inconsistent, too_many, found}
+use Rattle.dl_terms.specs.Reply.{IsReply, too_many}
 use Rattle.dl_terms.specs.declared.role.Normal.{Normal}
 use Rattle.dl_terms.specs.declared.axiom.Axiom.{Axiom}
 use Rattle.dl_terms.specs.declared.axiom.Fact.{Fact}
@@ -12,10 +12,10 @@ use Rattle.dl_terms.specs.Table.{Table}
 use Rattle.dl_join.specs.Tuples.{AreExactly}
 use Rattle.dl_join.specs.declared.fault.JoinFault.{JoinFault}
 use Rattle.dl_join.specs.declared.fault.JoinFault.TheVariants as join
-use Rattle.dl_core.specs.declared.answer.Answer.{Answer}
-use Rattle.dl_core.specs.declared.answer.Answer.TheVariants.{Found, Inconsistent}
-use Rattle.dl_core.specs.declared.answer.AskFault.{AskFault}
-use Rattle.dl_core.specs.declared.answer.AskFault.TheVariants.{NoPin, TooMany, NoMemory}
+use Rattle.dl_event.specs.declared.answer.Answer.{Answer}
+use Rattle.dl_event.specs.Answers.{reply_of, answer_version}
+use Rattle.dl_event.specs.declared.answer.AskFault.{AskFault}
+use Rattle.dl_event.specs.declared.answer.AskFault.TheVariants.{NoPin, TooMany, NoMemory}
 
 -- the normal form of axioms, as a value
 abbrev pub normal_form : List Axiom → Normal
@@ -25,21 +25,12 @@ normal_form axioms = record {
   negatives = negatives_by_index axioms;
 }
 
--- the reply and the version that an answer tells
-abbrev pub reply_of : Answer → Reply
-reply_of (Found version tuples) = found tuples.tuples
-reply_of (Inconsistent version broken) = inconsistent broken
-
-abbrev pub version_of : Answer → ℕ
-version_of (Found version tuples) = version
-version_of (Inconsistent version broken) = version
-
 -- an answer is the defined reply at a version, `TooMany` comes where that is that there are too many, and `NoPin`
 -- doesn't come
 abbrev pub RepliesTo : List Axiom → List Fact → Option ℕ → Query → (limit version : ℕ)
     → Result Answer AskFault → Type 0
 RepliesTo axioms facts nothing q limit version (Ok answer) =
-    IsReply axioms facts nothing q limit (reply_of answer) × (version_of answer ≡ version)
+    IsReply axioms facts nothing q limit (reply_of answer) × (answer_version answer ≡ version)
 RepliesTo axioms facts nothing q limit version (Err NoPin) = ⊥
 RepliesTo axioms facts nothing q limit version (Err (TooMany v)) =
     IsReply axioms facts nothing q limit too_many × (v ≡ version)

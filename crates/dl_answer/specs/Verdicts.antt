@@ -11,8 +11,8 @@ use Rattle.dl_terms.specs.declared.axiom.Axiom.{Axiom}
 use Rattle.dl_terms.specs.declared.axiom.Fact.{Fact}
 use Rattle.dl_join.specs.declared.fault.JoinFault.{JoinFault}
 use Rattle.dl_join.specs.declared.fault.JoinFault.TheVariants as join
-use Rattle.dl_core.specs.declared.answer.AskFault.{AskFault}
-use Rattle.dl_core.specs.declared.answer.AskFault.TheVariants.{TooMany, NoMemory}
+use Rattle.dl_event.specs.declared.answer.AskFault.{AskFault}
+use Rattle.dl_event.specs.declared.answer.AskFault.TheVariants.{TooMany, NoMemory}
 use Rattle.dl_answer.specs.declared.broken.Verdict.{Verdict}
 use Rattle.dl_answer.specs.declared.broken.Verdict.TheVariants.{Broken, Sound}
 

@@ -19,9 +19,9 @@ use Rattle.dl_core.specs.Names.{item_classes, item_properties}
 use Rattle.dl_core.specs.Edits.{axioms_with, edited_axioms, signature_with, edited_signature}
 use Rattle.dl_core.specs.History.{Load, Entry, commits_to, after_commits, axioms_at}
 use Rattle.dl_core.specs.Root.{HasEachOnce}
-use Rattle.dl_core.specs.declared.event.Edit.{Edit}
-use Rattle.dl_core.specs.declared.event.Item.{Item}
-use Rattle.dl_core.specs.declared.event.Item.TheVariants as item
+use Rattle.dl_event.specs.declared.event.Edit.{Edit}
+use Rattle.dl_event.specs.declared.event.Item.{Item}
+use Rattle.dl_event.specs.declared.event.Item.TheVariants as item
 use Rattle.dl_core.proofs.SetLemmas.{once-with_item, once-filter}
 use Rattle.dl_core.proofs.OrderedLemmas.{InOrder-filter}
 

@@ -16,9 +16,9 @@ use Rattle.dl_terms.specs.declared.axiom.Axiom.{Axiom}
 use Rattle.dl_terms.proofs.OrderLemmas.{axioms_linear}
 use Rattle.dl_core.specs.Decided.{is_axiom}
 use Rattle.dl_core.specs.Edits.{axioms_with, edited_axioms}
-use Rattle.dl_core.specs.declared.event.Item.{Item}
-use Rattle.dl_core.specs.declared.event.Item.TheVariants as item
-use Rattle.dl_core.specs.declared.event.Edit.{Edit}
+use Rattle.dl_event.specs.declared.event.Item.{Item}
+use Rattle.dl_event.specs.declared.event.Item.TheVariants as item
+use Rattle.dl_event.specs.declared.event.Edit.{Edit}
 use Rattle.dl_core.proofs.KeyLemmas.{insert_key-with, remove_key-without, insert_key-last}
 
 -- ---- no edit of an axiom changes nothing

@@ -27,9 +27,9 @@ use Rattle.dl_core.specs.Root.{Root, IsLive, IsRowAt, epochs, shard, stands_in}
 use Rattle.dl_core.specs.Next.{IsReady, root_facts, new_facts}
 use Rattle.dl_core.specs.Held.{IsSound}
 use Rattle.dl_core.specs.Changes.{first_end, shard_of, StandsAt, turns, turned, AreGone, IsPlaceIn, OneHere, NoneHere}
-use Rattle.dl_core.specs.declared.event.Item.{Item}
-use Rattle.dl_core.specs.declared.event.Item.TheVariants as item
-use Rattle.dl_core.specs.declared.event.Edit.{Edit}
+use Rattle.dl_event.specs.declared.event.Item.{Item}
+use Rattle.dl_event.specs.declared.event.Item.TheVariants as item
+use Rattle.dl_event.specs.declared.event.Edit.{Edit}
 use Rattle.dl_core.proofs.CountLemmas.{count-filter_le}
 use Rattle.dl_core.proofs.CommitLemmas.{le_true, lt_true}
 use Rattle.dl_core.proofs.EditLemmas.{edited_facts_once, edits_decide}

@@ -24,7 +24,7 @@ use Rattle.dl_hier.specs.Predicates.{max_predicates}
 use Rattle.dl_row.specs.Shards.{max_rows}
 use Rattle.dl_core.specs.Next.{Numbering, IsNumbering, IsReady, epoch_from, row_for, same_signature, opens, root_facts, ended, ended_at, is_among, new_facts, committed_epoch, committed_older, committed_rows, committed, commit_refused}
 use Rattle.dl_row.specs.declared.row.Row.{Row}
-use Rattle.dl_core.specs.declared.event.Edit.{Edit}
+use Rattle.dl_event.specs.declared.event.Edit.{Edit}
 use Rattle.dl_core.proofs.CountLemmas.{one_or_none}
 use Rattle.dl_row.proofs.CountLemmas.{same_is}
 use Rattle.dl_core.proofs.SetLemmas.{has_there}

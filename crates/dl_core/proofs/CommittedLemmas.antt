@@ -31,10 +31,10 @@ use Rattle.dl_core.specs.Held.{IsBookOf, IsHeld, IsSound, CountsRows}
 use Rattle.dl_core.specs.Committing.{IsAccepted, IsCommit, AreShardsAfter, AreEntriesAfter, added}
 use Rattle.dl_core.specs.History.{facts_at}
 use Rattle.dl_core.specs.declared.book.Book.{Book}
-use Rattle.dl_core.specs.declared.event.Edit.{Edit}
-use Rattle.dl_core.specs.declared.event.Event.TheVariants as event
-use Rattle.dl_core.specs.declared.reply.Reply.{Reply}
-use Rattle.dl_core.specs.declared.reply.Reply.TheVariants as reply
+use Rattle.dl_event.specs.declared.event.Edit.{Edit}
+use Rattle.dl_event.specs.declared.event.Event.TheVariants as event
+use Rattle.dl_event.specs.declared.reply.Reply.{Reply}
+use Rattle.dl_event.specs.declared.reply.Reply.TheVariants as reply
 use Rattle.dl_core.specs.declared.ontology.Ontology.{Ontology}
 use Rattle.dl_core.proofs.CommitKeepLemmas.{not_refused, committed_keeps}
 use Rattle.dl_core.proofs.CountLemmas.{count-map, count-same, count-none, count-agree}

@@ -10,9 +10,9 @@ use Rattle.dl_core.specs.Sets.{has, IsOnce}
 use Rattle.dl_core.specs.Names.{item_classes, item_properties}
 use Rattle.dl_core.specs.Edits.{names_fact, decided, facts_with, edited_facts, signature_with, edited_signature}
 use Rattle.dl_core.specs.Root.{HasEachOnce, IsPart, knows, AreKnown}
-use Rattle.dl_core.specs.declared.event.Item.{Item}
-use Rattle.dl_core.specs.declared.event.Item.TheVariants as item
-use Rattle.dl_core.specs.declared.event.Edit.{Edit}
+use Rattle.dl_event.specs.declared.event.Item.{Item}
+use Rattle.dl_event.specs.declared.event.Item.TheVariants as item
+use Rattle.dl_event.specs.declared.event.Edit.{Edit}
 use Rattle.dl_row.proofs.CountLemmas.{same_is, same_itself}
 use Rattle.dl_core.proofs.SetLemmas.{has-with_item, once-with_item, has-filter, once-filter, has-with_items, once-with_items}
 

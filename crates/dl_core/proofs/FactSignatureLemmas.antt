@@ -10,7 +10,7 @@ use Rattle.dl_core.specs.Edits.{edited_facts, edited_signature}
 use Rattle.dl_core.specs.History.{Load, Entry, after_commits, commits_to, facts_at, signature_at}
 use Rattle.dl_core.specs.Loading.{IsFactIn}
 use Rattle.dl_core.specs.Root.{IsLoad, knows, AreKnown}
-use Rattle.dl_core.specs.declared.event.Edit.{Edit}
+use Rattle.dl_event.specs.declared.event.Edit.{Edit}
 use Rattle.dl_core.proofs.EditLemmas.{edited_known}
 use Rattle.dl_core.proofs.SetLemmas.{has_there, there_has}
 

@@ -15,7 +15,7 @@ use Rattle.dl_core.specs.Root.{Root, epochs, shard, stands_in, AreInShards}
 use Rattle.dl_core.specs.Held.{before_last, last_of, older_of, current_of, root_over, rows_of, IsBookOf, AreShardsOf, IsHeld, IsSound, CountsRows}
 use Rattle.dl_core.specs.Next.{with_pins}
 use Rattle.dl_core.specs.declared.book.Book.{Book}
-use Rattle.dl_core.specs.declared.book.Pin.{Pin}
+use Rattle.dl_event.specs.declared.pin.Pin.{Pin}
 use Rattle.dl_row.specs.Laws.{row_total}
 use Rattle.dl_row.proofs.OrderedLemmas.{ordered-ascends}
 use Rattle.dl_core.proofs.OrderedLemmas.{InOrder-filter}

@@ -5,7 +5,7 @@ use Rattle.std.proofs.lemmas.List.{take-append-le}
 use Rattle.std.proofs.lemmas.List.Elements.{filter_map-append}
 use Rattle.std.proofs.lemmas.List.Sums.{fold-append}
 use Rattle.dl_core.specs.History.{Entry, accepted, commits, version_of, after_commits, commits_to, pinned_by, pin_of}
-use Rattle.dl_core.specs.declared.event.Edit.{Edit}
+use Rattle.dl_event.specs.declared.event.Edit.{Edit}
 
 pub commits-push : (history : List Entry) (e : Entry) → commits (history ++ e ∷ []) ≡ commits history ++ cons_option (accepted e.event e.reply) []
 commits-push history e = filter_map-append (λ e. accepted e.event e.reply) history (e ∷ [])

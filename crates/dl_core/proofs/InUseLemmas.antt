@@ -12,7 +12,7 @@ use Rattle.dl_migrate.specs.Tallies.{carries}
 use Rattle.dl_core.specs.History.{Load, Entry}
 use Rattle.dl_core.specs.Root.{Root, epochs, rows_in, IsLive, IsInUse, StandsFor}
 use Rattle.dl_core.specs.Next.{pinned_versions, is_dead_in, reclaimed}
-use Rattle.dl_core.specs.declared.book.Pin.{Pin}
+use Rattle.dl_event.specs.declared.pin.Pin.{Pin}
 use Rattle.dl_core.proofs.ChangedListLemmas.{last_where_is}
 use Rattle.dl_core.proofs.CommitLemmas.{is_equal}
 use Rattle.dl_core.proofs.MaintainLemmas.{covers_still, kept_by_pin, kept_by_row}

@@ -22,10 +22,10 @@ use Rattle.dl_core.specs.Sets.{has, with_items}
 use Rattle.dl_core.specs.Names.{item_classes, item_properties}
 use Rattle.dl_core.specs.Edits.{axioms_with, edited_axioms, signature_with, edited_signature}
 use Rattle.dl_core.specs.Root.{IsPart}
-use Rattle.dl_core.specs.Next.{ItemHasNoAuxiliary}
-use Rattle.dl_core.specs.declared.event.Edit.{Edit}
-use Rattle.dl_core.specs.declared.event.Item.{Item}
-use Rattle.dl_core.specs.declared.event.Item.TheVariants as item
+use Rattle.dl_event.specs.Auxiliaries.{ItemHasNoAuxiliary}
+use Rattle.dl_event.specs.declared.event.Edit.{Edit}
+use Rattle.dl_event.specs.declared.event.Item.{Item}
+use Rattle.dl_event.specs.declared.event.Item.TheVariants as item
 use Rattle.dl_core.proofs.SetLemmas.{has-with_items, has_there, there_has}
 use Rattle.dl_epoch.proofs.PredicateLemmas.{axiom_is_in}
 use Rattle.dl_core.proofs.OrderedLemmas.{All-put}

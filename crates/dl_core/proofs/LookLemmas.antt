@@ -29,8 +29,8 @@ use Rattle.dl_core.specs.Names.{predicates}
 use Rattle.dl_core.specs.Next.{behind, looked}
 use Rattle.dl_core.specs.Held.{AreShardsOf, IsBookOf, IsSound, CountsRows}
 use Rattle.dl_core.specs.declared.book.Book.{Book}
-use Rattle.dl_core.specs.declared.reply.Looked.{Looked}
-use Rattle.dl_core.specs.declared.reply.Reply.TheVariants as reply
+use Rattle.dl_event.specs.declared.reply.Looked.{Looked}
+use Rattle.dl_event.specs.declared.reply.Reply.TheVariants as reply
 use Rattle.dl_core.proofs.CountLemmas.{count_once}
 use Rattle.dl_core.proofs.EpochLemmas.{current_numbered}
 use Rattle.dl_core.proofs.ShardLemmas.{filter-ordered}

@@ -30,7 +30,7 @@ use Rattle.dl_core.specs.Names.{predicates}
 use Rattle.dl_core.specs.History.{Load, Entry}
 use Rattle.dl_core.specs.Root.{Root, epochs, rows_in, stands_in, IsLive, IsRowAt, EndsAgree, AreEpochs, AreRows, StandsFor, IsPart, IsNumbered, knows}
 use Rattle.dl_core.specs.Next.{is_behind_in, migrated, least, pinned_versions, horizon, is_over_in, swept, is_dead_in, reclaimed}
-use Rattle.dl_core.specs.declared.book.Pin.{Pin}
+use Rattle.dl_event.specs.declared.pin.Pin.{Pin}
 use Rattle.dl_core.proofs.CountLemmas.{and_false, count-agree}
 use Rattle.dl_core.proofs.CommitLemmas.{le_true}
 use Rattle.dl_core.proofs.OrderedLemmas.{All-ordered}

@@ -7,8 +7,8 @@ use Rattle.dl_row.specs.Lists.{count, first_some}
 use Rattle.dl_core.specs.History.{Load, Entry, accepted, commits, version_of, after_commits, axioms_at, facts_at, signature_at, pinned_by, pin_of}
 use Rattle.dl_core.specs.Edits.{edited_axioms, edited_facts, edited_signature}
 use Rattle.dl_core.specs.Root.{Root, epochs, pin_in, IsLive, ReadsAs, StandsFor}
-use Rattle.dl_core.specs.declared.book.Pin.{Pin}
-use Rattle.dl_core.specs.declared.reply.Reply.TheVariants as reply
+use Rattle.dl_event.specs.declared.pin.Pin.{Pin}
+use Rattle.dl_event.specs.declared.reply.Reply.TheVariants as reply
 use Rattle.dl_row.proofs.CountLemmas.{count-append}
 use Rattle.dl_core.proofs.CountLemmas.{count-filter_le}
 use Rattle.dl_core.proofs.EpochLemmas.{some_none}

@@ -19,7 +19,7 @@ use Rattle.dl_core.specs.Names.{predicates}
 use Rattle.dl_core.specs.Next.{Numbering, IsNumbering}
 use Rattle.dl_core.specs.Root.{Root, IsLive, IsLoad, epochs, pin_in}
 use Rattle.dl_core.specs.declared.book.Book.{Book}
-use Rattle.dl_core.specs.declared.book.Pin.{Pin}
+use Rattle.dl_event.specs.declared.pin.Pin.{Pin}
 use Rattle.dl_core.proofs.EpochLemmas.{some_none, some_some}
 use Rattle.dl_core.proofs.FewLemmas.{predicates_few}
 use Rattle.dl_core.proofs.ReadLemmas.{pin_there}

@@ -4,9 +4,9 @@ use Rattle.dl_core.specs.History.{Entry}
 use Rattle.dl_core.specs.Root.{Root, pin_in}
 use Rattle.dl_core.specs.Next.{with_pins, unpinned}
 use Rattle.dl_core.specs.Held.{IsSound}
-use Rattle.dl_core.specs.declared.book.Pin.{Pin}
-use Rattle.dl_core.specs.declared.event.Event.TheVariants as event
-use Rattle.dl_core.specs.declared.reply.Reply.TheVariants as reply
+use Rattle.dl_event.specs.declared.pin.Pin.{Pin}
+use Rattle.dl_event.specs.declared.event.Event.TheVariants as event
+use Rattle.dl_event.specs.declared.reply.Reply.TheVariants as reply
 use Rattle.dl_core.proofs.PinLemmas.{pinned_keeps, unpinned_keeps}
 
 pub pinned_sound : (root : Root) (stream version : ℕ) (old pins : List Pin) → IsSound root → pin_in old stream ≡ None → old ≡ root.pins → version ≡ root.version

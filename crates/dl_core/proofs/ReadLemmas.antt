@@ -6,7 +6,7 @@ use Rattle.dl_core.specs.History.{Load, Entry, version_of, after_commits, axioms
 use Rattle.dl_core.specs.Root.{Root, epochs, pin_in, IsLive, ReadsAs, IsLoad}
 use Rattle.dl_core.specs.Next.{Numbering, IsNumbering, loaded, next}
 use Rattle.dl_core.specs.Legal.{IsLegalFrom, IsLegal, root_of}
-use Rattle.dl_core.specs.declared.book.Pin.{Pin}
+use Rattle.dl_event.specs.declared.pin.Pin.{Pin}
 use Rattle.dl_core.proofs.EpochLemmas.{some_none, some_some}
 use Rattle.dl_core.proofs.RunLemmas.{legal_stands, commits_to-more}
 

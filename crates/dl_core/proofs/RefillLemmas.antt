@@ -23,9 +23,9 @@ use Rattle.dl_core.specs.Root.{Root, IsRowAt, epochs, shard, stands_in, rows_in}
 use Rattle.dl_core.specs.Next.{with_rows, is_behind_in, migrated, behind, horizon, is_over_in, swept, in_shards}
 use Rattle.dl_core.specs.Held.{IsSound}
 use Rattle.dl_core.specs.Maintaining.{IsRefill}
-use Rattle.dl_core.specs.declared.reply.Reply.{Reply}
-use Rattle.dl_core.specs.declared.reply.Reply.TheVariants as reply
-use Rattle.dl_core.specs.declared.reply.Refusal.TheVariants.{NoShard}
+use Rattle.dl_event.specs.declared.reply.Reply.{Reply}
+use Rattle.dl_event.specs.declared.reply.Reply.TheVariants as reply
+use Rattle.dl_event.specs.declared.reply.Refusal.TheVariants.{NoShard}
 use Rattle.dl_core.proofs.ChangedListLemmas.{filter-drop_within, filter-change_first, filter-drop_other, length-change_first, length-filter_le}
 use Rattle.dl_core.proofs.LookLemmas.{count_le, count-others}
 use Rattle.dl_core.proofs.MaintainLemmas.{migrated_keep, swept_keep}

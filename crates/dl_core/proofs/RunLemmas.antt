@@ -17,13 +17,13 @@ use Rattle.dl_epoch.specs.Known.{max_weight}
 use Rattle.dl_hier.specs.Predicates.{max_predicates}
 use Rattle.dl_core.specs.Next.{Numbering, IsNumbering, IsReady, epoch_from, row_for, loaded, committed, commit_refused, refused_or, pinned, unpinned, migrated, swept, behind, is_behind_in, is_over_in, is_dead_in, reclaimed, looked, next}
 use Rattle.dl_core.specs.Legal.{asked, root_from, IsLegalFrom, IsLegal, root_of}
-use Rattle.dl_core.specs.declared.event.Edit.{Edit}
-use Rattle.dl_core.specs.declared.event.Event.{Event}
-use Rattle.dl_core.specs.declared.event.Event.TheVariants as event
-use Rattle.dl_core.specs.declared.reply.Reply.{Reply}
-use Rattle.dl_core.specs.declared.reply.Reply.TheVariants as reply
-use Rattle.dl_core.specs.declared.reply.Refusal.{Refusal}
-use Rattle.dl_core.specs.declared.reply.Refusal.TheVariants.{NoShard}
+use Rattle.dl_event.specs.declared.event.Edit.{Edit}
+use Rattle.dl_event.specs.declared.event.Event.{Event}
+use Rattle.dl_event.specs.declared.event.Event.TheVariants as event
+use Rattle.dl_event.specs.declared.reply.Reply.{Reply}
+use Rattle.dl_event.specs.declared.reply.Reply.TheVariants as reply
+use Rattle.dl_event.specs.declared.reply.Refusal.{Refusal}
+use Rattle.dl_event.specs.declared.reply.Refusal.TheVariants.{NoShard}
 use Rattle.dl_row.proofs.CountLemmas.{count-ordered}
 use Rattle.dl_core.proofs.CountLemmas.{count-map, count-agree, count_once}
 use Rattle.dl_core.proofs.EditLemmas.{part_itself}

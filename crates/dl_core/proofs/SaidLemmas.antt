@@ -16,9 +16,9 @@ use Rattle.dl_terms.proofs.OrderLemmas.{facts_linear}
 use Rattle.dl_row.proofs.CountLemmas.{same_is}
 use Rattle.dl_core.specs.Edits.{names_fact, decided}
 use Rattle.dl_core.specs.Decided.{Decide, said}
-use Rattle.dl_core.specs.declared.event.Item.{Item}
-use Rattle.dl_core.specs.declared.event.Item.TheVariants as item
-use Rattle.dl_core.specs.declared.event.Edit.{Edit}
+use Rattle.dl_event.specs.declared.event.Item.{Item}
+use Rattle.dl_event.specs.declared.event.Item.TheVariants as item
+use Rattle.dl_event.specs.declared.event.Edit.{Edit}
 
 -- ---- edits
 

@@ -29,13 +29,13 @@ use Rattle.dl_core.specs.Next.{Numbering, IsNumbering, epoch_from, row_for, load
 use Rattle.dl_core.specs.Legal.{root_from, IsLegalFrom, IsLegal, root_of}
 use Rattle.dl_core.specs.Steps.{longer}
 use Rattle.dl_core.specs.Scratch.{reload, bare, bare_rows, scratch, NoneOpens}
-use Rattle.dl_core.specs.declared.event.Edit.{Edit}
-use Rattle.dl_core.specs.declared.event.Event.{Event}
-use Rattle.dl_core.specs.declared.event.Event.TheVariants as event
-use Rattle.dl_core.specs.declared.reply.Reply.{Reply}
-use Rattle.dl_core.specs.declared.reply.Reply.TheVariants as reply
-use Rattle.dl_core.specs.declared.reply.Refusal.{Refusal}
-use Rattle.dl_core.specs.declared.reply.Refusal.TheVariants.{NoShard}
+use Rattle.dl_event.specs.declared.event.Edit.{Edit}
+use Rattle.dl_event.specs.declared.event.Event.{Event}
+use Rattle.dl_event.specs.declared.event.Event.TheVariants as event
+use Rattle.dl_event.specs.declared.reply.Reply.{Reply}
+use Rattle.dl_event.specs.declared.reply.Reply.TheVariants as reply
+use Rattle.dl_event.specs.declared.reply.Refusal.{Refusal}
+use Rattle.dl_event.specs.declared.reply.Refusal.TheVariants.{NoShard}
 use Rattle.dl_core.proofs.CountLemmas.{and_true, count-map, count-same, count-none, count-filter, count_once}
 use Rattle.dl_core.proofs.ChangedListLemmas.{count-drop_first_le}
 use Rattle.dl_core.proofs.CommitLemmas.{le_true, new_now, is_equal}

@@ -13,7 +13,7 @@ use Rattle.dl_row.specs.Rows.{fact_of, row_cmp, open_end}
 use Rattle.dl_core.specs.Root.{Root, epochs, stands_in, shard, AreInShards}
 use Rattle.dl_core.specs.Next.{Numbering, is_among, ended, ended_at, row_for, new_facts, root_facts, committed, committed_epoch}
 use Rattle.dl_row.specs.declared.row.Row.{Row}
-use Rattle.dl_core.specs.declared.event.Edit.{Edit}
+use Rattle.dl_event.specs.declared.event.Edit.{Edit}
 use Rattle.dl_row.proofs.CountLemmas.{count-ordered, same_is}
 use Rattle.dl_core.proofs.CountLemmas.{count-filter, count-same}
 use Rattle.dl_row.proofs.OrderedLemmas.{ordered-ascends, same_ordered, ordered-same}

@@ -12,7 +12,7 @@ use Rattle.dl_epoch.specs.Known.{IsSignature}
 use Rattle.dl_core.specs.Edits.{signature_with, edited_signature}
 use Rattle.dl_core.specs.Names.{item_classes, item_properties, added_classes, added_properties}
 use Rattle.dl_core.specs.Sets.{has, with_items}
-use Rattle.dl_core.specs.declared.event.Edit.{Edit}
+use Rattle.dl_event.specs.declared.event.Edit.{Edit}
 use Rattle.dl_core.proofs.AscendLemmas.{edited_signature-sorted}
 use Rattle.dl_core.proofs.SetLemmas.{has-with_items, has_there, there_has}
 

@@ -5,8 +5,8 @@ use Rattle.dl_core.specs.Root.{Root, StandsFor}
 use Rattle.dl_core.specs.Next.{Numbering, GoesByRule, MeetsCondition, next, loaded}
 use Rattle.dl_core.specs.Legal.{root_from, IsLegalFrom, IsLegal, root_of}
 use Rattle.dl_core.specs.Steps.{longer, IsStep}
-use Rattle.dl_core.specs.declared.event.Event.{Event}
-use Rattle.dl_core.specs.declared.reply.Reply.{Reply}
+use Rattle.dl_event.specs.declared.event.Event.{Event}
+use Rattle.dl_event.specs.declared.reply.Reply.{Reply}
 use Rattle.dl_core.proofs.RuleLemmas.{rule_is_numbering}
 use Rattle.dl_core.proofs.RunLemmas.{next_keeps}
 

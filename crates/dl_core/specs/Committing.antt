@@ -17,12 +17,13 @@ use Rattle.dl_epoch.specs.Covering.{Kept, epoch_in}
 use Rattle.dl_row.specs.Shards.{max_rows}
 use Rattle.dl_core.specs.Root.{Root, epochs, shard, max_epochs}
 use Rattle.dl_core.specs.Edits.{edited_axioms, edited_signature, edited_facts}
-use Rattle.dl_core.specs.Next.{ItemHasNoAuxiliary, opens, root_facts, new_facts, ended, commit_refused}
+use Rattle.dl_core.specs.Next.{opens, root_facts, new_facts, ended, commit_refused}
+use Rattle.dl_event.specs.Auxiliaries.{ItemHasNoAuxiliary}
 use Rattle.dl_core.specs.Held.{CountsRows}
 use Rattle.dl_core.specs.Changes.{AreGone}
-use Rattle.dl_core.specs.declared.event.Edit.{Edit}
-use Rattle.dl_core.specs.declared.reply.Refusal.{Refusal}
-use Rattle.dl_core.specs.declared.reply.Refusal.TheVariants.{TooManyEpochs, Full}
+use Rattle.dl_event.specs.declared.event.Edit.{Edit}
+use Rattle.dl_event.specs.declared.reply.Refusal.{Refusal}
+use Rattle.dl_event.specs.declared.reply.Refusal.TheVariants.{TooManyEpochs, Full}
 use Rattle.dl_core.specs.declared.ontology.Ontology.{Ontology}
 
 -- the ontology after some edits, and whether it is another one

@@ -8,9 +8,9 @@ use Rattle.dl_terms.specs.declared.axiom.Fact.{Fact}
 use Rattle.dl_terms.specs.declared.axiom.Signature.{Signature}
 use Rattle.dl_core.specs.Sets.{with_item, without_item, with_items}
 use Rattle.dl_core.specs.Names.{item_classes, item_properties}
-use Rattle.dl_core.specs.declared.event.Item.{Item}
-use Rattle.dl_core.specs.declared.event.Item.TheVariants as item
-use Rattle.dl_core.specs.declared.event.Edit.{Edit}
+use Rattle.dl_event.specs.declared.event.Item.{Item}
+use Rattle.dl_event.specs.declared.event.Item.TheVariants as item
+use Rattle.dl_event.specs.declared.event.Edit.{Edit}
 
 -- the axioms after one edit: an item is added or removed
 abbrev pub axioms_with : Bool → Item → List Axiom → List Axiom

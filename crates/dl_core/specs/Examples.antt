@@ -11,11 +11,11 @@ use Rattle.dl_row.specs.declared.row.Kind.TheVariants as kind
 use Rattle.dl_core.specs.History.{Load}
 use Rattle.dl_core.specs.Root.{Root}
 use Rattle.dl_core.specs.Next.{Numbering, next, epoch_from}
-use Rattle.dl_core.specs.declared.event.Item.TheVariants as item
-use Rattle.dl_core.specs.declared.event.Edit.{Edit}
-use Rattle.dl_core.specs.declared.event.Event.{Event}
-use Rattle.dl_core.specs.declared.event.Event.TheVariants.{Commit, Pin, Unpin, Migrate, Sweep, Reclaim, Look}
-use Rattle.dl_core.specs.declared.reply.Reply.{Reply}
+use Rattle.dl_event.specs.declared.event.Item.TheVariants as item
+use Rattle.dl_event.specs.declared.event.Edit.{Edit}
+use Rattle.dl_event.specs.declared.event.Event.{Event}
+use Rattle.dl_event.specs.declared.event.Event.TheVariants.{Commit, Pin, Unpin, Migrate, Sweep, Reclaim, Look}
+use Rattle.dl_event.specs.declared.reply.Reply.{Reply}
 
 -- numbers in name order
 abbrev pub by_name : Numbering

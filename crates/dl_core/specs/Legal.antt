@@ -6,8 +6,8 @@ use Rattle.dl_row.specs.declared.row.Row.{Row}
 use Rattle.dl_core.specs.History.{Load, Entry, pin_of}
 use Rattle.dl_core.specs.Root.{Root, shard, pin_in}
 use Rattle.dl_core.specs.Next.{Numbering, MeetsCondition, next, loaded}
-use Rattle.dl_core.specs.declared.book.Pin.{Pin}
-use Rattle.dl_core.specs.declared.event.Event.{Event}
+use Rattle.dl_event.specs.declared.pin.Pin.{Pin}
+use Rattle.dl_event.specs.declared.event.Event.{Event}
 
 -- what an entry's stream asked for
 abbrev pub asked : Entry → ℕ × Event

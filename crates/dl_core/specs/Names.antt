@@ -10,9 +10,9 @@ use Rattle.dl_terms.specs.declared.axiom.Signature.{Signature}
 use Rattle.dl_normal.specs.Filled.{filled_pairs}
 use Rattle.dl_epoch.specs.Predicates.{axiom_classes, axiom_properties, fact_classes, fact_properties}
 use Rattle.dl_core.specs.Sets.{with_items}
-use Rattle.dl_core.specs.declared.event.Edit.{Edit}
-use Rattle.dl_core.specs.declared.event.Item.{Item}
-use Rattle.dl_core.specs.declared.event.Item.TheVariants as item
+use Rattle.dl_event.specs.declared.event.Edit.{Edit}
+use Rattle.dl_event.specs.declared.event.Item.{Item}
+use Rattle.dl_event.specs.declared.event.Item.TheVariants as item
 
 -- the classes and properties that an item names
 abbrev pub item_classes : Item → List ℕ

@@ -1,7 +1,7 @@
 -- The root of a load, and the next root and the reply of each event. `numbering` gives an epoch's classes and
 -- properties in number order. Roots and events are this project's own.
 use Rattle.std.specs.Prelude.{ℕ, ◌+◌, ◌≤◌, min, Bool, false, not, ◌&&◌, cond, ◌==◌, nat_le, nat_lt, List, [], ◌∷◌, ◌++◌, map, length, take}
-use Rattle.std.specs.List.{All, filter, filter_map}
+use Rattle.std.specs.List.{filter, filter_map}
 use Rattle.std.specs.declared.option.Option.{Option}
 use Rattle.std.specs.declared.option.Option.TheVariants.{Some, None}
 use Rattle.std.specs.Ordering.{nat_cmp, is_eq}
@@ -12,7 +12,6 @@ use Rattle.dl_terms.specs.declared.axiom.Fact.{Fact}
 use Rattle.dl_terms.specs.declared.axiom.Fact.TheVariants.{Is, Link}
 use Rattle.dl_terms.specs.declared.axiom.Signature.{Signature}
 use Rattle.dl_terms.specs.Below.{RoleBelow, ConceptBelow}
-use Rattle.dl_terms.specs.Auxiliaries.{HasNoAuxiliary}
 use Rattle.dl_terms.specs.Roles.{named}
 use Rattle.dl_terms.specs.declared.role.Basic.TheVariants as basic
 use Rattle.dl_numbers.specs.Rule.{IsByRule}
@@ -34,18 +33,17 @@ use Rattle.dl_migrate.specs.Reclaiming.{is_dead}
 use Rattle.dl_row.specs.declared.row.Kind.{Kind}
 use Rattle.dl_row.specs.declared.row.Kind.TheVariants.{Class, Role}
 use Rattle.dl_row.specs.declared.row.Row.{Row}
-use Rattle.dl_core.specs.declared.book.Pin.{Pin}
-use Rattle.dl_core.specs.declared.event.Item.{Item}
-use Rattle.dl_core.specs.declared.event.Item.TheVariants as item
-use Rattle.dl_core.specs.declared.event.Edit.{Edit}
-use Rattle.dl_core.specs.declared.event.Event.{Event}
-use Rattle.dl_core.specs.declared.event.Event.TheVariants as event
+use Rattle.dl_event.specs.declared.pin.Pin.{Pin}
+use Rattle.dl_event.specs.Auxiliaries.{EventHasNoAuxiliary}
+use Rattle.dl_event.specs.declared.event.Edit.{Edit}
+use Rattle.dl_event.specs.declared.event.Event.{Event}
+use Rattle.dl_event.specs.declared.event.Event.TheVariants as event
 use Rattle.dl_core.specs.declared.fault.LoadFault.{LoadFault}
 use Rattle.dl_core.specs.declared.fault.LoadFault.TheVariants as fault
-use Rattle.dl_core.specs.declared.reply.Reply.{Reply}
-use Rattle.dl_core.specs.declared.reply.Reply.TheVariants as reply
-use Rattle.dl_core.specs.declared.reply.Refusal.{Refusal}
-use Rattle.dl_core.specs.declared.reply.Refusal.TheVariants.{TooManyAxioms, TooManyPredicates, TooManyEpochs, Full, PinOpen, NoPin, NoShard}
+use Rattle.dl_event.specs.declared.reply.Reply.{Reply}
+use Rattle.dl_event.specs.declared.reply.Reply.TheVariants as reply
+use Rattle.dl_event.specs.declared.reply.Refusal.{Refusal}
+use Rattle.dl_event.specs.declared.reply.Refusal.TheVariants.{TooManyAxioms, TooManyPredicates, TooManyEpochs, Full, PinOpen, NoPin, NoShard}
 
 -- how names are numbered, under axioms: of a kind, those of a signature in number order
 abbrev pub Numbering : Type 0
@@ -353,17 +351,6 @@ next numbering root stream (event.Look n) = (root, looked root n)
 -- the version has room for one more
 abbrev pub IsReady : Root → Type 0
 IsReady root = root.version ≤ max_version
-
--- no role of an item, and of an event, is an auxiliary role
-abbrev pub ItemHasNoAuxiliary : Item → Type 0
-ItemHasNoAuxiliary (item.Axiom a) = HasNoAuxiliary a
-ItemHasNoAuxiliary (item.Fact f) = Unit {0}
-ItemHasNoAuxiliary (item.Class c) = Unit {0}
-ItemHasNoAuxiliary (item.Property p) = Unit {0}
-
-abbrev pub EventHasNoAuxiliary : Event → Type 0
-EventHasNoAuxiliary (event.Commit edits) = All (λ e. ItemHasNoAuxiliary e.item) edits
-EventHasNoAuxiliary e = Unit {0}
 
 -- the version has room for one more, and no axiom has an auxiliary role
 abbrev pub MeetsCondition : Root → Event → Type 0

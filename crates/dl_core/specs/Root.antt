@@ -22,7 +22,7 @@ use Rattle.dl_hier.specs.Predicates.{max_predicates}
 use Rattle.dl_row.specs.declared.row.Kind.{Kind}
 use Rattle.dl_row.specs.declared.row.Kind.TheVariants.{Class, Role}
 use Rattle.dl_row.specs.declared.row.Row.{Row}
-use Rattle.dl_core.specs.declared.book.Pin.{Pin}
+use Rattle.dl_event.specs.declared.pin.Pin.{Pin}
 
 -- how many epochs are kept at most
 abbrev pub max_epochs : ℕ

@@ -4,8 +4,8 @@ use Rattle.dl_core.specs.History.{Load, Entry}
 use Rattle.dl_core.specs.Root.{Root}
 use Rattle.dl_core.specs.Next.{Numbering}
 use Rattle.dl_core.specs.Legal.{IsLegal, root_of}
-use Rattle.dl_core.specs.declared.event.Event.{Event}
-use Rattle.dl_core.specs.declared.reply.Reply.{Reply}
+use Rattle.dl_event.specs.declared.event.Event.{Event}
+use Rattle.dl_event.specs.declared.reply.Reply.{Reply}
 
 -- a history with what a stream asks for next, and what it is told
 abbrev pub longer : List Entry → ℕ → Event → Reply → List Entry

@@ -1,12 +1,6 @@
+use crate::Pin;
 use dl_epoch::Epochs;
 use dl_terms::List;
-
-/// The version that a stream reads.
-#[derive(Clone, Copy, PartialEq, Eq)]
-pub struct Pin {
-    pub stream: u32,
-    pub version: u32,
-}
 
 /// What a root has beside its shards: its version, the kept epochs, the pins, and how many rows there are.
 #[derive(Drop)]

@@ -1,7 +1,8 @@
 // A commit: accepted or refused.
 ghost use Rattle.std.specs.Prelude.{◌≡◌, ℕ, All, IfOk};
-ghost use Rattle.dl_core.specs.Next.{Numbering, GoesByRule, IsReady, ItemHasNoAuxiliary, next};
-ghost use Rattle.dl_core.specs.declared.event.Event.TheVariants as event;
+ghost use Rattle.dl_core.specs.Next.{Numbering, GoesByRule, IsReady, next};
+ghost use Rattle.dl_event.specs.Auxiliaries.{ItemHasNoAuxiliary};
+ghost use Rattle.dl_event.specs.declared.event.Event.TheVariants as event;
 
 use crate::changes::turned_facts;
 use crate::committed::committed;

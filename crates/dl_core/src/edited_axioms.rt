@@ -6,7 +6,7 @@ ghost use Rattle.dl_terms.specs.Auxiliaries.{HasNoAuxiliary};
 ghost use Rattle.dl_terms.specs.Order.{axiom_cmp};
 ghost use Rattle.dl_core.specs.Decided.{is_axiom};
 ghost use Rattle.dl_core.specs.Edits.{axioms_with, edited_axioms as axioms_after};
-ghost use Rattle.dl_core.specs.Next.{ItemHasNoAuxiliary};
+ghost use Rattle.dl_event.specs.Auxiliaries.{ItemHasNoAuxiliary};
 
 use crate::{Edit, Item};
 use dl_epoch::{copied_axiom, copied_axioms};

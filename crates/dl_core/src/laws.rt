@@ -18,8 +18,8 @@ ghost use Rattle.dl_core.specs.Next.{IsReady, GoesByRule, loaded, next, row_for,
 ghost use Rattle.dl_core.specs.Loading.{IsLoadOf};
 ghost use Rattle.dl_core.specs.Legal.{asked, IsLegal, IsLegalFrom, root_of, Reader, ReaderStandsFor};
 ghost use Rattle.dl_core.specs.Steps.{longer};
-ghost use Rattle.dl_core.specs.declared.event.Edit.{Edit};
-ghost use Rattle.dl_core.specs.declared.event.Event.{Event};
+ghost use Rattle.dl_event.specs.declared.event.Edit.{Edit};
+ghost use Rattle.dl_event.specs.declared.event.Event.{Event};
 
 /// Each root of a legal history stands for it, from the load on.
 pub fn roots_stand_for_histories()

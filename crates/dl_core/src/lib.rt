@@ -2,7 +2,6 @@
 // versions, and the next root of each event.
 #![tactic(auto)]
 
-mod answer;
 mod book;
 mod changes;
 mod commit;
@@ -13,7 +12,6 @@ mod counts;
 mod edited_axioms;
 mod edited_facts;
 mod edited_signature;
-mod event;
 mod fault;
 mod first_root;
 mod found;
@@ -33,19 +31,18 @@ pub mod reader_laws;
 mod reads;
 mod reclaim;
 mod refilled;
-mod reply;
 mod root;
 mod root_reads;
 mod sets;
 pub mod worked_examples;
 
-pub use answer::{Answer, AskFault, Placed};
-pub use book::{Book, Pin};
-pub use event::{Edit, Event, Item};
+pub use book::Book;
+pub use dl_event::{
+    Answer, AskFault, Edit, Event, Item, Looked, Pin, Placed, Refusal, Reply,
+};
 pub use fault::LoadFault;
 pub use first_root::load;
 pub use next_root::step;
 pub use reads::Reads;
-pub use reply::{Looked, Refusal, Reply};
 pub use root::Root;
 pub use root_reads::RootReads;

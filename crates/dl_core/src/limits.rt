@@ -3,7 +3,7 @@ ghost use Rattle.std.specs.Prelude.{◌≡◌, List, length, IfOk};
 ghost use Rattle.dl_epoch.specs.Known.{IsSignature};
 ghost use Rattle.dl_core.specs.Next.{commit_refused};
 ghost use Rattle.dl_core.specs.Committing.{IsEdited, added, unfit};
-ghost use Rattle.dl_core.specs.declared.event.Edit.{Edit as AnyEdit};
+ghost use Rattle.dl_event.specs.declared.event.Edit.{Edit as AnyEdit};
 
 use crate::counts::predicate_count;
 use crate::first_root::{MAX_ROWS, MAX_WEIGHT};

@@ -6,8 +6,8 @@ ghost use Rattle.dl_row.specs.Lists.{count, ordered, Ascends};
 ghost use Rattle.dl_row.specs.Rows.{row_cmp, visible};
 ghost use Rattle.dl_row.specs.Shards.{max_rows};
 ghost use Rattle.dl_core.specs.Next.{Numbering, next, looked};
-ghost use Rattle.dl_core.specs.declared.event.Event.TheVariants as event;
-ghost use Rattle.dl_core.specs.declared.reply.Reply.TheVariants as reply;
+ghost use Rattle.dl_event.specs.declared.event.Event.TheVariants as event;
+ghost use Rattle.dl_event.specs.declared.reply.Reply.TheVariants as reply;
 
 use crate::{Looked, Reply, Root};
 use dl_epoch::Epoch;

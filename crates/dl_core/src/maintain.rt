@@ -1,7 +1,7 @@
 // Migrate and sweep: rows of a shard that move to the current epoch, and rows that no live version sees.
 ghost use Rattle.std.specs.Prelude.{◌≡◌, ℕ, map, IfOk};
 ghost use Rattle.dl_core.specs.Next.{Numbering, next, least};
-ghost use Rattle.dl_core.specs.declared.event.Event.TheVariants as event;
+ghost use Rattle.dl_event.specs.declared.event.Event.TheVariants as event;
 
 use crate::refilled::refilled;
 use crate::{Pin, Refusal, Reply, Root};

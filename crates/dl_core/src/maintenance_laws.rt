@@ -11,8 +11,8 @@ ghost use Rattle.dl_core.specs.Next.{Numbering, IsNumbering, migrated, behind, h
 ghost use Rattle.dl_core.specs.Legal.{IsLegal, root_from, root_of};
 ghost use Rattle.dl_core.specs.Scratch.{NoneOpens, bare_rows, scratch};
 ghost use Rattle.dl_core.specs.Steps.{longer};
-ghost use Rattle.dl_core.specs.declared.event.Event.TheVariants as event;
-ghost use Rattle.dl_core.specs.declared.reply.Reply.TheVariants as reply;
+ghost use Rattle.dl_event.specs.declared.event.Event.TheVariants as event;
+ghost use Rattle.dl_event.specs.declared.reply.Reply.TheVariants as reply;
 
 /// Migrating, sweeping and reclaiming keep what a root stands for, so each live version reads what it read.
 pub fn maintenance_keeps()

@@ -2,7 +2,7 @@
 ghost use Rattle.std.specs.Prelude.{◌≡◌, ◌==◌, not, filter, IfOk};
 ghost use Rattle.dl_core.specs.Root.{pin_in};
 ghost use Rattle.dl_core.specs.Next.{Numbering, next};
-ghost use Rattle.dl_core.specs.declared.event.Event.TheVariants as event;
+ghost use Rattle.dl_event.specs.declared.event.Event.TheVariants as event;
 
 use crate::copies::copied_pins;
 use crate::{Pin, Refusal, Reply, Root};

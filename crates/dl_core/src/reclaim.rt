@@ -3,7 +3,7 @@ ghost use Rattle.std.specs.Prelude.{◌≡◌, ◌==◌, ℕ, not, filter, map, 
 ghost use Rattle.std.specs.List.{list_any};
 ghost use Rattle.dl_epoch.specs.Covering.{kept};
 ghost use Rattle.dl_core.specs.Next.{Numbering, next};
-ghost use Rattle.dl_core.specs.declared.event.Event.TheVariants as event;
+ghost use Rattle.dl_event.specs.declared.event.Event.TheVariants as event;
 
 use crate::copies::{copied_pins, counting};
 use crate::{Book, Pin, Reply, Root};

@@ -6,9 +6,9 @@ ghost use Rattle.dl_core.specs.Next.{GoesByRule, loaded};
 ghost use Rattle.dl_core.specs.Examples.{by_name, replies, a_is_an_a, only_a_fact, pin_again, remove_and_add};
 ghost use Rattle.dl_core.specs.Examples.{refused_events, class_a, row_of_a, twice_a};
 ghost use Rattle.dl_core.specs.Examples.{migrate_and_reclaim, pin_and_sweep, no_such_shard};
-ghost use Rattle.dl_core.specs.declared.reply.Reply.TheVariants.{Committed, Pinned, Unpinned, Migrated, Swept, Reclaimed};
-ghost use Rattle.dl_core.specs.declared.reply.Reply.TheVariants.{Looked, Refused};
-ghost use Rattle.dl_core.specs.declared.reply.Refusal.TheVariants.{NoPin, PinOpen, NoShard};
+ghost use Rattle.dl_event.specs.declared.reply.Reply.TheVariants.{Committed, Pinned, Unpinned, Migrated, Swept, Reclaimed};
+ghost use Rattle.dl_event.specs.declared.reply.Reply.TheVariants.{Looked, Refused};
+ghost use Rattle.dl_event.specs.declared.reply.Refusal.TheVariants.{NoPin, PinOpen, NoShard};
 
 /// The replies to a stream's events, numbered in name order.
 pub fn reply_examples()

@@ -10,15 +10,15 @@ use Rattle.dl_core.specs.Next.{Numbering, IsNumbering, GoesByRule, IsReady, next
 use Rattle.dl_core.specs.Loading.{IsLoadOf, IsLoaded, IsLoadFault}
 use Rattle.dl_core.specs.Legal.{IsLegal, root_of, Reader, ReaderStandsFor, plain_reader}
 use Rattle.dl_core.specs.Steps.{longer, IsStep}
-use Rattle.dl_core.specs.declared.event.Event.TheVariants.{Pin}
+use Rattle.dl_event.specs.declared.event.Event.TheVariants.{Pin}
 use Rattle.dl_core.specs.declared.fault.LoadFault.{LoadFault}
 use Rattle.dl_core.specs.declared.fault.LoadFault.TheVariants as passed
-use Rattle.dl_core.specs.declared.reply.Reply.{Reply}
-use Rattle.dl_core.specs.declared.reply.Reply.TheVariants.{Pinned}
+use Rattle.dl_event.specs.declared.reply.Reply.{Reply}
+use Rattle.dl_event.specs.declared.reply.Reply.TheVariants.{Pinned}
 use Rattle.dl_core.proofs.RuleLemmas.{rule_exists, rule_is_numbering}
 use Rattle.dl_answer.specs.Replies as answer
-use Rattle.dl_core.specs.declared.answer.Answer.{Answer}
-use Rattle.dl_core.specs.declared.answer.AskFault.{AskFault}
+use Rattle.dl_event.specs.declared.answer.Answer.{Answer}
+use Rattle.dl_event.specs.declared.answer.AskFault.{AskFault}
 use Rattle.dl_run.specs.Answered.{RepliesTo}
 use Rattle.dl_run.specs.Answered.IsUnanswered.{over_load}
 use Rattle.dl_run.specs.Asked.{load_of, IsMade, AnswersAsked}

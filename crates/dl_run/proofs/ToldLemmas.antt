@@ -5,10 +5,10 @@ use Rattle.dl_terms.specs.Reply.{IsReply, found, inconsistent, too_many}
 use Rattle.dl_terms.specs.Table.{Table}
 use Rattle.dl_terms.specs.declared.axiom.Axiom.{Axiom}
 use Rattle.dl_terms.specs.declared.query.Query.{Query}
-use Rattle.dl_core.specs.declared.answer.Answer.{Answer}
-use Rattle.dl_core.specs.declared.answer.Answer.TheVariants.{Found, Inconsistent}
-use Rattle.dl_core.specs.declared.answer.AskFault.{AskFault}
-use Rattle.dl_core.specs.declared.answer.AskFault.TheVariants as fault
+use Rattle.dl_event.specs.declared.answer.Answer.{Answer}
+use Rattle.dl_event.specs.declared.answer.Answer.TheVariants.{Found, Inconsistent}
+use Rattle.dl_event.specs.declared.answer.AskFault.{AskFault}
+use Rattle.dl_event.specs.declared.answer.AskFault.TheVariants as fault
 use Rattle.dl_run.specs.Answered.{AreTold, IsUnanswered, RepliesTo}
 use Rattle.dl_run.specs.Answered.IsUnanswered.{over_limit}
 use Rattle.dl_run.specs.Asked.{AnswersAsked}

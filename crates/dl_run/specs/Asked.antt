@@ -21,8 +21,8 @@ use Rattle.dl_terms.specs.Queries.{IsWellFormed}
 use Rattle.dl_epoch.specs.Known.{IsSignature, IsAxiomIn}
 use Rattle.dl_core.specs.Loading.{IsFactIn}
 use Rattle.dl_answer.specs.Replies as answer
-use Rattle.dl_core.specs.declared.answer.Answer.{Answer}
-use Rattle.dl_core.specs.declared.answer.AskFault.{AskFault}
+use Rattle.dl_event.specs.declared.answer.Answer.{Answer}
+use Rattle.dl_event.specs.declared.answer.AskFault.{AskFault}
 use Rattle.dl_run.specs.Wrong.{IsFirstWrong}
 
 abbrev pub load_of : Asked → Load

@@ -8,9 +8,9 @@ use Rattle.dl_core.specs.Root.{IsLoad}
 use Rattle.dl_core.specs.Next.{Numbering, IsNumbering, load_refused}
 use Rattle.dl_core.specs.Loading.{load_with}
 use Rattle.dl_core.specs.Legal.{Reader, ReaderStandsFor}
-use Rattle.dl_core.specs.declared.event.Event.TheVariants.{Pin}
+use Rattle.dl_event.specs.declared.event.Event.TheVariants.{Pin}
 use Rattle.dl_core.specs.declared.fault.LoadFault.{LoadFault}
-use Rattle.dl_core.specs.declared.reply.Reply.TheVariants.{Pinned}
+use Rattle.dl_event.specs.declared.reply.Reply.TheVariants.{Pinned}
 use Rattle.dl_run.specs.Input.{Load}
 use Rattle.dl_run.specs.Stops.{stop_of_load}
 use Rattle.dl_run.specs.declared.stop.Refusal.{Refusal}

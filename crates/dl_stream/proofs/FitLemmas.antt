@@ -10,12 +10,12 @@ use Rattle.dl_names.proofs.NameListLemmas.{length-Extends}
 use Rattle.dl_terms.specs.declared.query.Query.{Query}
 use Rattle.dl_terms.specs.declared.axiom.Fact.{Fact}
 use Rattle.dl_terms.specs.Occurring.{query_names}
-use Rattle.dl_core.specs.declared.event.Item.{Item}
-use Rattle.dl_core.specs.declared.event.Item.TheVariants as item
-use Rattle.dl_core.specs.declared.event.Edit.{Edit}
-use Rattle.dl_core.specs.declared.event.Event.{Event}
-use Rattle.dl_core.specs.declared.event.Event.TheVariants as event
-use Rattle.dl_core.specs.Next.{ItemHasNoAuxiliary}
+use Rattle.dl_event.specs.declared.event.Item.{Item}
+use Rattle.dl_event.specs.declared.event.Item.TheVariants as item
+use Rattle.dl_event.specs.declared.event.Edit.{Edit}
+use Rattle.dl_event.specs.declared.event.Event.{Event}
+use Rattle.dl_event.specs.declared.event.Event.TheVariants as event
+use Rattle.dl_event.specs.Auxiliaries.{ItemHasNoAuxiliary}
 use Rattle.dl_triples.proofs.PlaceLemmas.{IsWithin, read_within}
 use Rattle.dl_query.specs.Queries as queries
 use Rattle.dl_query.proofs.GrammarLemmas.{query-grows}

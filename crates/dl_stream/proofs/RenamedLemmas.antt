@@ -11,11 +11,11 @@ use Rattle.dl_terms.specs.declared.query.Query.{Query}
 use Rattle.dl_terms.specs.Queries.{term_variables, atom_variables, body_variables, IsWellFormed}
 use Rattle.dl_terms.specs.Renamed.{renamed_term, renamed_atom, renamed_query}
 use Rattle.dl_terms.proofs.AuxiliaryLemmas.{renamed_axiom-named}
-use Rattle.dl_core.specs.declared.event.Item.{Item}
-use Rattle.dl_core.specs.declared.event.Item.TheVariants as item
-use Rattle.dl_core.specs.declared.event.Event.{Event}
-use Rattle.dl_core.specs.declared.event.Event.TheVariants as event
-use Rattle.dl_core.specs.Next.{ItemHasNoAuxiliary}
+use Rattle.dl_event.specs.declared.event.Item.{Item}
+use Rattle.dl_event.specs.declared.event.Item.TheVariants as item
+use Rattle.dl_event.specs.declared.event.Event.{Event}
+use Rattle.dl_event.specs.declared.event.Event.TheVariants as event
+use Rattle.dl_event.specs.Auxiliaries.{ItemHasNoAuxiliary}
 use Rattle.dl_stream.specs.declared.streams.Command.{Command}
 use Rattle.dl_stream.specs.declared.streams.Command.TheVariants.{Put, Ask}
 use Rattle.dl_stream.specs.Commands.{IsTaken, IsFit, renamed_item, renamed_edit, renamed_event, renamed_command}

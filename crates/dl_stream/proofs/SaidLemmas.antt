@@ -3,7 +3,7 @@ use Rattle.std.proofs.Common.{◌≡◌, ◌≢◌, ℕ, ◌+◌, ◌<◌, ◌�
 use Rattle.std.proofs.lemmas.List.Sums.{sum_by-append}
 use Rattle.dl_names.specs.NameList.{Text, Extends}
 use Rattle.dl_names.proofs.NameListLemmas.{Extends-same, Extends-trans}
-use Rattle.dl_core.specs.declared.event.Edit.{Edit}
+use Rattle.dl_event.specs.declared.event.Edit.{Edit}
 use Rattle.dl_terms.specs.declared.axiom.Fact.{Fact}
 use Rattle.dl_query.specs.declared.fault.QueryFault.{QueryFault}
 use Rattle.dl_query.specs.declared.fault.QueryFault.TheVariants as query_faults

@@ -4,7 +4,7 @@ use Rattle.dl_names.specs.NameList.{Text, Extends}
 use Rattle.dl_names.proofs.NameListLemmas.{Extends-same, Extends-trans}
 use Rattle.dl_stream.specs.declared.streams.Streams.{Streams}
 use Rattle.dl_stream.specs.declared.streams.Command.{Command}
-use Rattle.dl_core.specs.declared.event.Edit.{Edit}
+use Rattle.dl_event.specs.declared.event.Edit.{Edit}
 use Rattle.dl_stream.specs.declared.fault.Kind.{Kind}
 use Rattle.dl_stream.specs.declared.fault.Kind.TheVariants.{NotEnded}
 use Rattle.dl_stream.specs.declared.fault.StreamFault.{StreamFault}

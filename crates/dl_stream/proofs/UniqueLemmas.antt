@@ -2,7 +2,7 @@
 use Rattle.std.proofs.Common.{◌≡◌, ◌≢◌, ℕ, ◌+◌, ◌⊎◌, inl, inr, Bool, true, false, List, [], ◌∷◌, ◌++◌, Option, Some, None, Result, Ok, Err, IfOk, IfErr, IsOk, MatchResult, refl, sym, ap, ◌∙◌, subst, arith, true≢false}
 use Rattle.std.proofs.lemmas.Bool.{false≢true}
 use Rattle.dl_names.specs.NameList.{Text}
-use Rattle.dl_core.specs.declared.event.Edit.{Edit}
+use Rattle.dl_event.specs.declared.event.Edit.{Edit}
 use Rattle.dl_triples.proofs.ValueLemmas as triple_lemmas
 use Rattle.dl_owl.specs.Causes.{fault_of}
 use Rattle.dl_owl.specs.Expected.{lone_axiom}

@@ -5,12 +5,12 @@ use Rattle.dl_terms.specs.Occurring.{axiom_names, fact_names, query_names}
 use Rattle.dl_terms.specs.Renamed.{renamed_axiom, renamed_fact, renamed_query}
 use Rattle.dl_terms.specs.Queries.{IsWellFormed}
 use Rattle.dl_terms.specs.declared.query.Query.{Query}
-use Rattle.dl_core.specs.declared.event.Item.{Item}
-use Rattle.dl_core.specs.declared.event.Item.TheVariants as item
-use Rattle.dl_core.specs.declared.event.Edit.{Edit}
-use Rattle.dl_core.specs.declared.event.Event.{Event}
-use Rattle.dl_core.specs.declared.event.Event.TheVariants as event
-use Rattle.dl_core.specs.Next.{EventHasNoAuxiliary}
+use Rattle.dl_event.specs.declared.event.Item.{Item}
+use Rattle.dl_event.specs.declared.event.Item.TheVariants as item
+use Rattle.dl_event.specs.declared.event.Edit.{Edit}
+use Rattle.dl_event.specs.declared.event.Event.{Event}
+use Rattle.dl_event.specs.declared.event.Event.TheVariants as event
+use Rattle.dl_event.specs.Auxiliaries.{EventHasNoAuxiliary}
 use Rattle.dl_stream.specs.declared.streams.Command.{Command}
 use Rattle.dl_stream.specs.declared.streams.Command.TheVariants.{Put, Ask}
 use Rattle.dl_stream.specs.Forms.{max_limit, max_rows, max_looked}

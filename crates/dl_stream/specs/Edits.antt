@@ -4,9 +4,9 @@ use Rattle.std.specs.Prelude.{◌≡◌, ℕ, Bool, true, false, ◌||◌, cond,
 use Rattle.std.specs.List.{starts_with}
 use Rattle.dl_names.specs.NameList.{Text}
 use Rattle.dl_terms.specs.declared.axiom.Fact.{Fact}
-use Rattle.dl_core.specs.declared.event.Edit.{Edit}
-use Rattle.dl_core.specs.declared.event.Item.{Item}
-use Rattle.dl_core.specs.declared.event.Item.TheVariants as item
+use Rattle.dl_event.specs.declared.event.Edit.{Edit}
+use Rattle.dl_event.specs.declared.event.Item.{Item}
+use Rattle.dl_event.specs.declared.event.Item.TheVariants as item
 use Rattle.dl_triples.specs.declared.fault.TripleFault.{TripleFault}
 use Rattle.dl_triples.specs.declared.fault.TripleFault.TheVariants as triple_fault
 use Rattle.dl_triples.specs.Lines.{IsLine}

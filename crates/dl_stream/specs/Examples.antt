@@ -5,13 +5,13 @@ use Rattle.dl_terms.specs.declared.query.Atom.TheVariants as atom
 use Rattle.dl_terms.specs.declared.query.Query.{Query}
 use Rattle.dl_terms.specs.declared.query.Term.TheVariants.{Var}
 use Rattle.dl_core.specs.History.{Load}
-use Rattle.dl_core.specs.declared.answer.AskFault.TheVariants as ask
-use Rattle.dl_core.specs.declared.event.Event.{Event}
-use Rattle.dl_core.specs.declared.event.Event.TheVariants.{Commit, Pin, Unpin, Migrate, Sweep}
-use Rattle.dl_core.specs.declared.event.Item.TheVariants as item
-use Rattle.dl_core.specs.declared.reply.Refusal.TheVariants.{PinOpen, NoPin, NoShard}
-use Rattle.dl_core.specs.declared.reply.Reply.{Reply}
-use Rattle.dl_core.specs.declared.reply.Reply.TheVariants.{Committed, Pinned, Refused}
+use Rattle.dl_event.specs.declared.answer.AskFault.TheVariants as ask
+use Rattle.dl_event.specs.declared.event.Event.{Event}
+use Rattle.dl_event.specs.declared.event.Event.TheVariants.{Commit, Pin, Unpin, Migrate, Sweep}
+use Rattle.dl_event.specs.declared.event.Item.TheVariants as item
+use Rattle.dl_event.specs.declared.reply.Refusal.TheVariants.{PinOpen, NoPin, NoShard}
+use Rattle.dl_event.specs.declared.reply.Reply.{Reply}
+use Rattle.dl_event.specs.declared.reply.Reply.TheVariants.{Committed, Pinned, Refused}
 use Rattle.dl_stream.specs.Transcript.{Told}
 use Rattle.dl_stream.specs.declared.outcome.Outcome.TheVariants as outcome
 use Rattle.dl_stream.specs.declared.streams.Command.TheVariants.{Put, Ask}

@@ -4,8 +4,8 @@ use Rattle.std.specs.List.{list_all}
 use Rattle.std.specs.Char.{is_ascii_digit}
 use Rattle.std.specs.Str.{bytes_eq}
 use Rattle.std.specs.Str.Parse.{digits_value}
-use Rattle.dl_core.specs.declared.event.Event.{Event}
-use Rattle.dl_core.specs.declared.event.Event.TheVariants as event
+use Rattle.dl_event.specs.declared.event.Event.{Event}
+use Rattle.dl_event.specs.declared.event.Event.TheVariants as event
 
 -- how many answers an ask has at most where it doesn't say, and the most that it may say
 abbrev pub default_limit : ℕ

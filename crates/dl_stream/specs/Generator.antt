@@ -14,9 +14,9 @@ use Rattle.dl_terms.specs.declared.axiom.Fact.TheVariants as fact
 use Rattle.dl_terms.specs.declared.query.Term.TheVariants.{Var}
 use Rattle.dl_terms.specs.declared.query.Atom.TheVariants as atom
 use Rattle.dl_terms.specs.declared.query.Query.{Query}
-use Rattle.dl_core.specs.declared.event.Edit.{Edit}
-use Rattle.dl_core.specs.declared.event.Item.TheVariants as item
-use Rattle.dl_core.specs.declared.event.Event.TheVariants.{Commit, Pin, Unpin, Migrate, Sweep, Reclaim}
+use Rattle.dl_event.specs.declared.event.Edit.{Edit}
+use Rattle.dl_event.specs.declared.event.Item.TheVariants as item
+use Rattle.dl_event.specs.declared.event.Event.TheVariants.{Commit, Pin, Unpin, Migrate, Sweep, Reclaim}
 use Rattle.dl_stream.specs.declared.streams.Command.{Command}
 use Rattle.dl_stream.specs.declared.streams.Command.TheVariants.{Put, Ask}
 use Rattle.dl_stream.specs.declared.streams.Streams.{Streams}

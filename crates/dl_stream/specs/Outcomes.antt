@@ -5,16 +5,17 @@ use Rattle.std.specs.declared.option.Option.TheVariants.{Some, None}
 use Rattle.std.specs.List.{flat_map}
 use Rattle.std.specs.Fmt.{decimal}
 use Rattle.dl_names.specs.NameList.{Text}
-use Rattle.dl_core.specs.declared.answer.Answer.{Answer}
-use Rattle.dl_core.specs.declared.answer.Answer.TheVariants as answer
-use Rattle.dl_core.specs.declared.answer.AskFault.{AskFault}
-use Rattle.dl_core.specs.declared.answer.AskFault.TheVariants as ask
-use Rattle.dl_core.specs.declared.answer.Placed.{Placed}
-use Rattle.dl_core.specs.declared.reply.Looked.{Looked}
-use Rattle.dl_core.specs.declared.reply.Refusal.{Refusal}
-use Rattle.dl_core.specs.declared.reply.Refusal.TheVariants.{TooManyAxioms, TooManyPredicates, TooManyEpochs, Full, PinOpen, NoPin, NoShard}
-use Rattle.dl_core.specs.declared.reply.Reply.{Reply}
-use Rattle.dl_core.specs.declared.reply.Reply.TheVariants.{Committed, Pinned, Unpinned, Migrated, Swept, Reclaimed, Looked as Look, Refused}
+use Rattle.dl_event.specs.Answers.{answer_version}
+use Rattle.dl_event.specs.declared.answer.Answer.{Answer}
+use Rattle.dl_event.specs.declared.answer.Answer.TheVariants as answer
+use Rattle.dl_event.specs.declared.answer.AskFault.{AskFault}
+use Rattle.dl_event.specs.declared.answer.AskFault.TheVariants as ask
+use Rattle.dl_event.specs.declared.answer.Placed.{Placed}
+use Rattle.dl_event.specs.declared.reply.Looked.{Looked}
+use Rattle.dl_event.specs.declared.reply.Refusal.{Refusal}
+use Rattle.dl_event.specs.declared.reply.Refusal.TheVariants.{TooManyAxioms, TooManyPredicates, TooManyEpochs, Full, PinOpen, NoPin, NoShard}
+use Rattle.dl_event.specs.declared.reply.Reply.{Reply}
+use Rattle.dl_event.specs.declared.reply.Reply.TheVariants.{Committed, Pinned, Unpinned, Migrated, Swept, Reclaimed, Looked as Look, Refused}
 use Rattle.dl_stream.specs.declared.outcome.Outcome.{Outcome}
 use Rattle.dl_stream.specs.declared.outcome.Outcome.TheVariants as outcome
 use Rattle.dl_stream.specs.Lines.{words_line, tuple_line, broken_text, broken_names, predicate_lines, row_line, individuals}
@@ -121,10 +122,6 @@ outcome_names (outcome.Asked answer) = answer_names answer
 outcome_names other = []
 
 -- the version at which a query was asked, where its outcome tells one
-abbrev pub answer_version : Answer → ℕ
-answer_version (answer.Found version tuples) = version
-answer_version (answer.Inconsistent version broken) = version
-
 abbrev pub asked_version : Outcome → Option ℕ
 asked_version (outcome.Asked answer) = Some (answer_version answer)
 asked_version (outcome.AskRefused (ask.TooMany version)) = Some version

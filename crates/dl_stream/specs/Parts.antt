@@ -2,7 +2,7 @@
 use Rattle.std.specs.Prelude.{◌≡◌, ℕ, ◌<◌, ◌≤◌, ◌==◌, List, [], ◌∷◌, ◌++◌, length, Option, Some, Result, MatchOption, MatchResult, Bool, if◌then◌else◌}
 use Rattle.std.specs.Borrow.{Bor}
 use Rattle.dl_names.specs.NameList.{Text}
-use Rattle.dl_core.specs.declared.event.Edit.{Edit}
+use Rattle.dl_event.specs.declared.event.Edit.{Edit}
 use Rattle.dl_stream.specs.declared.fault.Kind.{Kind}
 use Rattle.dl_stream.specs.declared.fault.Kind.TheVariants.{NotEnded}
 use Rattle.dl_stream.specs.declared.fault.StreamFault.{StreamFault}

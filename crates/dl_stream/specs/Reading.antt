@@ -2,9 +2,9 @@
 use Rattle.std.specs.Prelude.{◌≡◌, ℕ, ◌+◌, ◌<◌, ◌≤◌, Bool, true, false, List, [], ◌∷◌, ◌++◌, length, sum_by, Option, Some, None}
 use Rattle.dl_names.specs.NameList.{Text, Extends}
 use Rattle.dl_terms.specs.declared.query.Query.{Query}
-use Rattle.dl_core.specs.declared.event.Edit.{Edit}
-use Rattle.dl_core.specs.declared.event.Event.{Event}
-use Rattle.dl_core.specs.declared.event.Event.TheVariants.{Commit}
+use Rattle.dl_event.specs.declared.event.Edit.{Edit}
+use Rattle.dl_event.specs.declared.event.Event.{Event}
+use Rattle.dl_event.specs.declared.event.Event.TheVariants.{Commit}
 use Rattle.dl_query.specs.declared.fault.QueryFault.{QueryFault}
 use Rattle.dl_query.specs.declared.fault.QueryFault.TheVariants as query_fault
 use Rattle.dl_query.specs.Queries as queries

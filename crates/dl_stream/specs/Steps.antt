@@ -1,6 +1,6 @@
 -- The commands of the generated stream one by one, for private functions.
 use Rattle.std.specs.Prelude.{ℕ}
-use Rattle.dl_core.specs.declared.event.Event.TheVariants as event
+use Rattle.dl_event.specs.declared.event.Event.TheVariants as event
 use Rattle.dl_stream.specs.declared.generated_stream.Step.{Step}
 use Rattle.dl_stream.specs.declared.generated_stream.Step.TheVariants.{Pin, Unpin, Ask, Commit, Migrate, Sweep, Reclaim}
 use Rattle.dl_stream.specs.declared.streams.Command.{Command}

@@ -7,23 +7,22 @@ use Rattle.std.specs.List.Sorted.{IsPermutation, IsStrictlyIncreasing}
 use Rattle.std.specs.Fmt.{decimal}
 use Rattle.dl_names.specs.NameList.{Text}
 use Rattle.dl_terms.specs.declared.query.Query.{Query}
-use Rattle.dl_terms.specs.Reply.{IsReply, inconsistent, too_many, found, Reply as DefinedReply}
+use Rattle.dl_terms.specs.Reply.{IsReply, too_many, Reply as DefinedReply}
 use Rattle.dl_core.specs.History.{Load, Entry, axioms_at, facts_at}
 use Rattle.dl_core.specs.Legal.{IsLegal}
 use Rattle.dl_core.specs.Next.{Numbering}
-use Rattle.dl_core.specs.declared.answer.Answer.{Answer}
-use Rattle.dl_core.specs.declared.answer.Answer.TheVariants as answer
-use Rattle.dl_core.specs.declared.answer.AskFault.TheVariants as ask
-use Rattle.dl_core.specs.declared.answer.Placed.{Placed}
-use Rattle.dl_core.specs.declared.reply.Refusal.TheVariants.{PinOpen}
-use Rattle.dl_core.specs.declared.reply.Reply.{Reply}
-use Rattle.dl_core.specs.declared.reply.Reply.TheVariants.{Committed, Pinned, Unpinned, Looked, Refused}
+use Rattle.dl_event.specs.Answers.{reply_of, answer_version}
+use Rattle.dl_event.specs.declared.answer.AskFault.TheVariants as ask
+use Rattle.dl_event.specs.declared.answer.Placed.{Placed}
+use Rattle.dl_event.specs.declared.reply.Refusal.TheVariants.{PinOpen}
+use Rattle.dl_event.specs.declared.reply.Reply.{Reply}
+use Rattle.dl_event.specs.declared.reply.Reply.TheVariants.{Committed, Pinned, Unpinned, Looked, Refused}
 use Rattle.dl_stream.specs.declared.streams.Command.{Command}
 use Rattle.dl_stream.specs.declared.streams.Command.TheVariants.{Put, Ask}
 use Rattle.dl_stream.specs.declared.outcome.Outcome.{Outcome}
 use Rattle.dl_stream.specs.declared.outcome.Outcome.TheVariants as outcome
 use Rattle.dl_stream.specs.Lines.{words_line}
-use Rattle.dl_stream.specs.Outcomes.{outcome_text, answer_version, asked_version, IsPinnedAt}
+use Rattle.dl_stream.specs.Outcomes.{outcome_text, asked_version, IsPinnedAt}
 
 -- a command of a stream, and what became of it
 pub record Told : Type 0 where
@@ -81,11 +80,6 @@ told_version (outcome.Placed placed) = reply_version placed.reply
 told_version other = asked_version other
 
 -- ---- what may become of a command
-
--- the reply that an answer is
-abbrev pub reply_of : Answer → DefinedReply
-reply_of (answer.Found version tuples) = found tuples.tuples
-reply_of (answer.Inconsistent version broken) = inconsistent broken
 
 -- a version that is pinned is at least each one that the stream was told before
 abbrev pub IsNoOlder : List Told → Reply → Type 0

@@ -10,7 +10,7 @@ ghost use Rattle.dl_stream.specs.Printing.{Prints};
 
 use crate::axiom_text::print_axiom;
 use crate::pieces::{Piece, put_all};
-use dl_core::Answer;
+use dl_event::Answer;
 use dl_io::{Failed, Sink};
 use dl_names::Names;
 use dl_terms::{Axiom, Tuples};

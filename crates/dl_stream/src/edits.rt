@@ -5,10 +5,10 @@ ghost use Rattle.dl_names.specs.NameList.{Extends};
 ghost use Rattle.dl_triples.specs.Lines.{IsLine, is_line_byte};
 ghost use Rattle.dl_stream.specs.Edits.{edit, fact_edits, document_edits, is_triple_text, triple_kind, axiom_kind, HasEditFault};
 ghost use Rattle.dl_stream.specs.Parts.{AddsEdits, ToldAt};
-ghost use Rattle.dl_core.specs.declared.event.Item.TheVariants as item;
+ghost use Rattle.dl_event.specs.declared.event.Item.TheVariants as item;
 
 use crate::fault::{Kind, StreamFault};
-use dl_core::{Edit, Item};
+use dl_event::{Edit, Item};
 use dl_names::NameSet;
 use dl_owl::{Document, OwlFault, read_axiom};
 use dl_terms::{Axiom, Fact, List, NoMemory};

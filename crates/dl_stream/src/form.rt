@@ -5,7 +5,7 @@ ghost use Rattle.dl_stream.specs.Parts.{said};
 
 use crate::cut::cut;
 use crate::number::{number_within, shard_and_rows};
-use dl_core::Event;
+use dl_event::Event;
 
 const DEFAULT_LIMIT: u64 = 10_000;
 

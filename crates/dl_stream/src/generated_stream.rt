@@ -3,13 +3,13 @@ ghost use Rattle.std.specs.Prelude.{◌≡◌, ◌∷◌, [], ◌≤◌, IfOk};
 ghost use Rattle.dl_terms.specs.declared.role.Basic.TheVariants as basic;
 ghost use Rattle.dl_terms.specs.declared.axiom.Axiom.TheVariants.{SubClass};
 ghost use Rattle.dl_terms.specs.declared.axiom.Part.TheVariants as part;
-ghost use Rattle.dl_core.specs.declared.event.Item.TheVariants as item;
+ghost use Rattle.dl_event.specs.declared.event.Item.TheVariants as item;
 ghost use Rattle.dl_stream.specs.Generator.{generated_query, generated_edits, generated_commands, generated_streams};
 ghost use Rattle.dl_stream.specs.Steps.{command_of};
 
 use crate::generated_axioms::sub_class;
 use crate::{Command, Streams};
-use dl_core::{Edit, Event, Item};
+use dl_event::{Edit, Event, Item};
 use dl_terms::{Atom, List, NoMemory, Part, Query, Term};
 use std::alloc::Global;
 

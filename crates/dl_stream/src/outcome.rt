@@ -8,7 +8,7 @@ ghost use Rattle.dl_stream.specs.Printing.{Prints};
 use crate::answers::{put_answer, put_too_many};
 use crate::pieces::{Piece, put_all};
 use crate::reply::put_reply;
-use dl_core::{Answer, AskFault, Placed};
+use dl_event::{Answer, AskFault, Placed};
 use dl_io::{Failed, Sink};
 use dl_names::Names;
 

@@ -1,6 +1,6 @@
 // What the lines so far say, and where the next one stands.
 use crate::streams::Command;
-use dl_core::Edit;
+use dl_event::Edit;
 use dl_terms::List;
 
 /// The stream that is open, behind those before it.

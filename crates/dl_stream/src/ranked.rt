@@ -6,7 +6,7 @@ ghost use Rattle.dl_stream.specs.Commands.{ItemBelow, EventBelow, CommandBelow, 
 
 use crate::axiom_ranks::rank_axiom;
 use crate::streams::{Command, Streams};
-use dl_core::{Edit, Event, Item};
+use dl_event::{Edit, Event, Item};
 use dl_names::Ranks;
 use dl_terms::{Fact, List};
 

@@ -9,7 +9,7 @@ ghost use Rattle.dl_stream.specs.Pieces.{row_start, row_rest};
 ghost use Rattle.dl_stream.specs.Printing.{Prints};
 
 use crate::pieces::{Piece, put_all};
-use dl_core::{Looked, Refusal, Reply};
+use dl_event::{Looked, Refusal, Reply};
 use dl_io::{Failed, Sink};
 use dl_names::Names;
 use dl_row::{Kind, Row};

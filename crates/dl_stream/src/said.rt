@@ -11,7 +11,7 @@ use crate::fault::{Kind, StreamFault};
 use crate::form::Form;
 use crate::place::{Open, Place};
 use crate::streams::Command;
-use dl_core::{Edit, Event};
+use dl_event::{Edit, Event};
 use dl_names::NameSet;
 use dl_query::{QueryFault, read_query};
 use dl_terms::List;

@@ -9,7 +9,7 @@ ghost use Rattle.dl_stream.specs.StreamText.{line_of, rows_text, query_text, fac
 
 use crate::query_text::{push_iri, push_number, push_query};
 use crate::{Command, Streams};
-use dl_core::{Edit, Event, Item};
+use dl_event::{Edit, Event, Item};
 use dl_names::Names;
 use dl_owl::axiom_text;
 use dl_terms::{Fact, List, NoMemory, Query};

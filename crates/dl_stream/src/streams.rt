@@ -1,4 +1,4 @@
-use dl_core::Event;
+use dl_event::Event;
 use dl_terms::{List, Query};
 
 /// What a stream does next.

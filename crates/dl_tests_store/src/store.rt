@@ -4,7 +4,7 @@ ghost use Rattle.std.specs.Bool.{OnTrue};
 ghost use Rattle.dl_terms.specs.Auxiliaries.{RoleHasNoAuxiliary, BasicHasNoAuxiliary, PartHasNoAuxiliary, HasNoAuxiliary};
 ghost use Rattle.dl_epoch.specs.Known.{IsRoleIn, IsConceptIn, IsPartIn, IsAxiomIn};
 ghost use Rattle.dl_core.specs.Loading.{IsFactIn};
-ghost use Rattle.dl_core.specs.Next.{ItemHasNoAuxiliary, EventHasNoAuxiliary};
+ghost use Rattle.dl_event.specs.Auxiliaries.{ItemHasNoAuxiliary, EventHasNoAuxiliary};
 
 use crate::epoch::inclusion;
 use dl_core::{Edit, Event, Item, LoadFault, Looked, Refusal, Reply, Root, load, step};

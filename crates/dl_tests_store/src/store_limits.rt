@@ -1,6 +1,6 @@
 // Loads and commits at each limit, and one past it.
 ghost use Rattle.std.specs.Prelude.{IfOk};
-ghost use Rattle.dl_core.specs.Next.{ItemHasNoAuxiliary, EventHasNoAuxiliary};
+ghost use Rattle.dl_event.specs.Auxiliaries.{ItemHasNoAuxiliary, EventHasNoAuxiliary};
 
 use crate::epoch::inclusion;
 use crate::store::{Told, next_told, root_of};

@@ -4,7 +4,7 @@ ghost use Rattle.std.specs.Option.{option_copied};
 ghost use Rattle.dl_owl.specs.AxiomText.{AreBelow};
 ghost use Rattle.dl_stream.specs.Outcomes.{outcome_names, reply_names, IsAtItsPin};
 
-use dl_core::{Answer, AskFault, Looked, Placed, Refusal, Reply};
+use dl_event::{Answer, AskFault, Looked, Placed, Refusal, Reply};
 use dl_names::{NameSet, Names};
 use dl_row::{Kind, OPEN, Row};
 use dl_stream::{Outcome, print_outcome};

@@ -1,5 +1,5 @@
 use Rattle.std.proofs.Common.{◌<◌, ◌^◌, Ok, length, refl, sym, subst, ◌∙◌}
-use Rattle.dl_core.specs.declared.answer.Answer.TheVariants.{Inconsistent}
+use Rattle.dl_event.specs.declared.answer.Answer.TheVariants.{Inconsistent}
 use Rattle.dl_answer.specs.Replies.{RepliesTo}
 use Rattle.dl_answer.proofs.AskLemmas.{all_read}
 use Rattle.dl_answer.proofs.BrokenLemmas.{broken_reply, sound_reply}

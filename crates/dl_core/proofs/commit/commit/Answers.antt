@@ -4,8 +4,8 @@ use Rattle.dl_core.specs.Changes.{turned, AreGone}
 use Rattle.dl_core.specs.Edits.{edited_facts}
 use Rattle.dl_core.specs.Next.{root_facts, committed, refused_or}
 use Rattle.dl_core.specs.Committing.{IsCommit}
-use Rattle.dl_core.specs.declared.reply.Reply.{Reply}
-use Rattle.dl_core.specs.declared.reply.Reply.TheVariants as reply
+use Rattle.dl_event.specs.declared.reply.Reply.{Reply}
+use Rattle.dl_event.specs.declared.reply.Reply.TheVariants as reply
 use Rattle.dl_core.proofs.ChangeLemmas.{new_are, gone_are}
 use Rattle.dl_core.proofs.CommittedLemmas.{answered}
 use Rattle.dl_core.proofs.commit.commit.Goals as goal

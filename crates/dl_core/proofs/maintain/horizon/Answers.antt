@@ -1,7 +1,7 @@
 use Rattle.std.proofs.Common.{◌≡◌, ◌+◌, map, min, drop, get_or, ap, ◌∙◌, arith}
 use Rattle.std.proofs.lemmas.List.{drop_more}
 use Rattle.dl_core.specs.Next.{least}
-use Rattle.dl_core.specs.declared.book.Pin.{Pin}
+use Rattle.dl_event.specs.declared.pin.Pin.{Pin}
 use Rattle.dl_core.proofs.MaintainedLemmas.{least-step}
 use Rattle.dl_core.proofs.maintain.horizon.Goals as goal
 use Rattle.dl_core.proofs.maintain.horizon.Goals.{then-pin-least, else-pin-least}

@@ -1,6 +1,6 @@
 use Rattle.std.proofs.Common.{◌<◌, ◌∙◌, map, ap₂, arith}
 use Rattle.dl_core.specs.Next.{least, swept}
-use Rattle.dl_core.specs.declared.book.Pin.{Pin}
+use Rattle.dl_event.specs.declared.pin.Pin.{Pin}
 use Rattle.dl_core.proofs.RefillLemmas.{swept_refill, swept_is, no_shard}
 use Rattle.dl_core.proofs.maintain.swept.Goals as goal
 

@@ -1,6 +1,6 @@
 use Rattle.std.proofs.Common.{sym, ap, ◌∙◌}
 use Rattle.dl_core.specs.Next.{next}
-use Rattle.dl_core.specs.declared.event.Event.TheVariants as event
+use Rattle.dl_event.specs.declared.event.Event.TheVariants as event
 use Rattle.dl_core.proofs.HeldLemmas.{ok_is}
 use Rattle.dl_core.proofs.next_root.stepped.Goals as goal
 

@@ -4,9 +4,9 @@ use Rattle.std.specs.List.{list_any}
 use Rattle.dl_epoch.specs.Covering.{Kept, kept}
 use Rattle.dl_core.specs.Root.{Root}
 use Rattle.dl_core.specs.Next.{reclaimed}
-use Rattle.dl_core.specs.declared.book.Pin.{Pin}
-use Rattle.dl_core.specs.declared.reply.Reply.{Reply}
-use Rattle.dl_core.specs.declared.reply.Reply.TheVariants as reply
+use Rattle.dl_event.specs.declared.pin.Pin.{Pin}
+use Rattle.dl_event.specs.declared.reply.Reply.{Reply}
+use Rattle.dl_event.specs.declared.reply.Reply.TheVariants as reply
 use Rattle.dl_core.proofs.HeldLemmas.{held_over, held_root}
 use Rattle.dl_core.proofs.MaintainedLemmas.{dead_are, reclaimed_rise, reclaimed_held}
 use Rattle.dl_core.proofs.reclaim.reclaimed.Goals as goal

@@ -1,6 +1,6 @@
 use Rattle.std.proofs.Common.{◌∷◌, ◌++◌, [], map, take, get_or, sym, ap, ◌∙◌}
 use Rattle.std.proofs.lemmas.List.{take_more, map-append}
-use Rattle.dl_core.specs.declared.book.Pin.{Pin}
+use Rattle.dl_event.specs.declared.pin.Pin.{Pin}
 use Rattle.dl_core.proofs.reclaim.versions_of.Goals as goal
 
 pub loop-pin-preserved : goal.loop-pin-preserved

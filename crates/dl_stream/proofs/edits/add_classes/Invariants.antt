@@ -1,5 +1,5 @@
 use Rattle.std.proofs.Common.{◌≡◌, ◌++◌, take, map, true}
-use Rattle.dl_core.specs.declared.event.Item.TheVariants as item
+use Rattle.dl_event.specs.declared.event.Item.TheVariants as item
 use Rattle.dl_stream.specs.Edits.{edit}
 use Rattle.dl_stream.proofs.edits.add_classes.Given as goal
 

@@ -1,4 +1,4 @@
-use Rattle.dl_core.specs.declared.event.Event.TheVariants.{Commit}
+use Rattle.dl_event.specs.declared.event.Event.TheVariants.{Commit}
 use Rattle.dl_stream.specs.declared.streams.Command.TheVariants.{Put}
 use Rattle.dl_stream.specs.Reading.{by_end}
 use Rattle.dl_stream.specs.Parts.{wants_memory}

@@ -7,12 +7,12 @@ use Rattle.std.proofs.lemmas.List.Elements.{All-nil, All-cons}
 use Rattle.std.proofs.lemmas.List.Sorted.{IsPermutation-refl, IsPermutation-append_comm, sum_by-IsPermutation, length_permutation}
 use Rattle.std.proofs.lemmas.List.FromFn.{length-enumerate_from}
 use Rattle.dl_core.specs.History.{Entry}
-use Rattle.dl_core.specs.Next.{EventHasNoAuxiliary, ItemHasNoAuxiliary}
-use Rattle.dl_core.specs.declared.event.Event.{Event}
-use Rattle.dl_core.specs.declared.event.Event.TheVariants.{Pin, Unpin, Migrate, Sweep}
-use Rattle.dl_core.specs.declared.reply.Refusal.TheVariants.{PinOpen, NoPin, NoShard}
-use Rattle.dl_core.specs.declared.reply.Reply.{Reply}
-use Rattle.dl_core.specs.declared.reply.Reply.TheVariants.{Committed, Pinned, Refused}
+use Rattle.dl_event.specs.Auxiliaries.{EventHasNoAuxiliary, ItemHasNoAuxiliary}
+use Rattle.dl_event.specs.declared.event.Event.{Event}
+use Rattle.dl_event.specs.declared.event.Event.TheVariants.{Pin, Unpin, Migrate, Sweep}
+use Rattle.dl_event.specs.declared.reply.Refusal.TheVariants.{PinOpen, NoPin, NoShard}
+use Rattle.dl_event.specs.declared.reply.Reply.{Reply}
+use Rattle.dl_event.specs.declared.reply.Reply.TheVariants.{Committed, Pinned, Refused}
 use Rattle.dl_stream.specs.Transcript.{HasRisingPlaces, FollowsOn, told_version, all_entries}
 use Rattle.dl_stream.specs.Examples.{b_is_an_a, adds_a, commit_first, at_one_place, nothing_loaded, refused}
 use Rattle.dl_stream.proofs.worked_examples.transcript_examples.Goals as goal

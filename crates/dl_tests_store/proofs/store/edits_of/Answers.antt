@@ -1,7 +1,7 @@
 use Rattle.std.proofs.Common.{sym, subst}
 use Rattle.std.specs.List.{All}
 use Rattle.std.proofs.lemmas.List.Elements.{All-push}
-use Rattle.dl_core.specs.Next.{ItemHasNoAuxiliary}
+use Rattle.dl_event.specs.Auxiliaries.{ItemHasNoAuxiliary}
 use Rattle.dl_tests_store.proofs.store.edits_of.Goals as goal
 
 pub loop-row-preserved : goal.loop-row-preserved

@@ -24,7 +24,7 @@ pub enum AskFault {
 
 impl From<AllocError> for AskFault {
     ghost use Rattle.std.specs.Prelude.{◌≡◌};
-    ghost use Rattle.dl_core.specs.declared.answer.AskFault.TheVariants.{NoMemory};
+    ghost use Rattle.dl_event.specs.declared.answer.AskFault.TheVariants.{NoMemory};
 
     ghost from_gives = { λ _ fault. fault ≡ NoMemory };
 
@@ -35,7 +35,7 @@ impl From<AllocError> for AskFault {
 
 impl From<NoMemory> for AskFault {
     ghost use Rattle.std.specs.Prelude.{◌≡◌};
-    ghost use Rattle.dl_core.specs.declared.answer.AskFault.TheVariants.{NoMemory};
+    ghost use Rattle.dl_event.specs.declared.answer.AskFault.TheVariants.{NoMemory};
 
     ghost from_gives = { λ _ fault. fault ≡ NoMemory };
 
