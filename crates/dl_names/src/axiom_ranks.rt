@@ -7,7 +7,8 @@ use crate::Ranks;
 use dl_terms::{Axiom, Base, Basic, Part, Role};
 
 impl Ranks {
-    /// Replaces each place that axioms name by its rank. The places are ones that `NameSet::add` gave. It takes no memory.
+    /// Replaces each place that axioms name by its rank. The places are ones that `NameSet::add` gave. It takes no
+    /// memory.
     pub fn rank_axioms(&self, axioms: &mut [Axiom])
         requires { All (λ stated. All (λ place. place < length self.now) (axiom_names stated)) axioms.old }
         ensures { axioms.new ≡ map (renamed_axiom (slice_index self.now)) axioms.old }

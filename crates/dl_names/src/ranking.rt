@@ -47,8 +47,8 @@ impl Ranks {
         }
     }
 
-    /// Replaces the place of each name of a query by its rank, which is its number from then on. The places are ones that
-    /// `NameSet::add` gave. It takes no memory.
+    /// Replaces the place of each name of a query by its rank, which is its number from then on. The places are ones
+    /// that `NameSet::add` gave. It takes no memory.
     pub fn rank_query(&self, query: &mut Query)
         requires { All (λ place. place < length self.now) (query_names query.old) }
         ensures { query.new ≡ renamed_query (slice_index self.now) query.old }

@@ -10,3 +10,4 @@ pub mod SetLemmas
 pub mod ListLemmas
 pub mod AuxiliaryLemmas
 pub mod OccurringLemmas
+pub mod RenamedLemmas

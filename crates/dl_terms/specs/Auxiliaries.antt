@@ -1,4 +1,5 @@
--- Axioms without auxiliary roles, and rows: an auxiliary role stands in the normal form alone. Auxiliary roles are this project's own.
+-- Axioms without auxiliary roles, and rows: an auxiliary role stands in the normal form alone. Auxiliary roles are
+-- this project's own.
 use Rattle.std.specs.Prelude.{ℕ}
 use Rattle.std.specs.List.{All, Contains}
 use Rattle.dl_terms.specs.NormalForm.{Row, role_in, concept_in, never, part_rows}

@@ -1,5 +1,6 @@
 -- The normal form of axioms: role inclusions, concept inclusions and negatives, in axiom order (OWL 2 Profiles,
--- OWL 2 QL; the rows with an auxiliary role u of r and C, which say "some r in C" by role inclusions, are this project's own).
+-- OWL 2 QL; the rows with an auxiliary role u of r and C, which say "some r in C" by role inclusions, are this
+-- project's own).
 use Rattle.std.specs.Prelude.{ℕ, List, [], ◌∷◌, ◌++◌, map}
 use Rattle.std.specs.List.{flat_map, filter_map, zip}
 use Rattle.std.specs.declared.option.Option.{Option}

@@ -1,6 +1,6 @@
--- The names of a term, in the order in which they are written: of predicates, of individuals, and of both parts of a
--- auxiliary role. As a set it is the signature of the term (Baader, Horrocks, Lutz, Sattler: An Introduction to Description
--- Logic, 2017), with its individuals.
+-- The names of a term, in the order in which they are written: of predicates, of individuals, and of both parts of an
+-- auxiliary role. As a set it is the signature of the term (Baader, Horrocks, Lutz, Sattler: An Introduction to
+-- Description Logic, 2017), with its individuals.
 use Rattle.std.specs.Prelude.{ℕ, List, [], ◌∷◌, ◌++◌}
 use Rattle.std.specs.List.{flat_map}
 use Rattle.dl_terms.specs.declared.role.Base.{Base}

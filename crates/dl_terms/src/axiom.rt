@@ -15,7 +15,8 @@ pub enum Part {
 }
 
 /// An axiom of OWL 2 QL on classes and object properties. Its order is by kind, as listed, and then by operands.
-/// No role of an axiom is an auxiliary role: those stand in the normal form alone (`HasNoAuxiliary` of the definitions).
+/// No role of an axiom is an auxiliary role: those stand in the normal form alone (`HasNoAuxiliary` of the
+/// definitions).
 #[derive(Drop, PartialEq, Eq, PartialOrd, Ord)]
 pub enum Axiom {
     SubClass { sub: Basic, sup: List<Part> },

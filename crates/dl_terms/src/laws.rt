@@ -1,5 +1,5 @@
-//! Laws of the definitions: of auxiliary roles and names, of what is below what, of the canonical structure, and of what is
-//! determined.
+//! Laws of the definitions: of auxiliary roles and names, of what is below what, of the canonical structure, and of
+//! what is determined.
 ghost use Rattle.std.specs.Prelude.{◌≡◌, ℕ, ◌↔◌, ◌⊎◌, List, map};
 ghost use Rattle.std.specs.List.{Contains};
 ghost use Rattle.std.specs.declared.option.Option.{Option};
@@ -53,9 +53,9 @@ pub fn answers_are_determined()
         → IsReply axioms facts nothing q limit b → a ≡ b }
 {}
 
-/// Auxiliary roles come into the normal form for "some r in C" alone: each row of an axiom without auxiliary roles has none, or is
-/// one of the rows that say that. There is one auxiliary role for each role that is none and each class, and other names
-/// change nothing of all that.
+/// Auxiliary roles come into the normal form for "some r in C" alone: each row of an axiom without auxiliary roles has
+/// none, or is one of the rows that say that. There is one auxiliary role for each role that is none and each class,
+/// and other names change nothing of all that.
 pub fn auxiliaries_stand_for_some_in()
     ensures rows { (a : Axiom) (row : Row) → HasNoAuxiliary a
         → Contains (axiom_rows a) row → RowHasNoAuxiliary row ⊎ IsFilled row }
