@@ -1,7 +1,8 @@
 // Joins over generated lists of pairs.
 ghost use Rattle.std.specs.Prelude.{◌≡◌, length, IfOk, OnOk};
 ghost use Rattle.std.specs.List.Sorted.{IsSorted};
-ghost use Rattle.dl_join.specs.Disjuncts.{pair_cmp, AreSorted};
+ghost use Rattle.dl_join.specs.Disjuncts.{AreSorted};
+ghost use Rattle.dl_terms.specs.Order.{pair_cmp};
 
 use dl_join::{JoinFault, is_safe, join};
 use dl_terms::{Disjunct, List, NoMemory, Pair, Probe, Term, set_of};

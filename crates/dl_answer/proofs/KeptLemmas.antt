@@ -13,7 +13,7 @@ use Rattle.std.proofs.Math.Path.{fun_ext}
 use Rattle.std.proofs.lemmas.Bool.{cases_lt}
 use Rattle.std.proofs.lemmas.List.{take_more, take_all, get_or_default, get_or_append_left, get_or_push, length_push}
 use Rattle.std.proofs.lemmas.List.Elements.{All-weaker, All-push, Contains-push_cases}
-use Rattle.dl_terms.specs.Order.{basic_cmp}
+use Rattle.dl_terms.specs.Order.{basic_cmp, pair_cmp}
 use Rattle.dl_terms.specs.contracts.role.BasicOrd.TheImpl as basic_impl
 use Rattle.dl_terms.specs.declared.role.Basic.TheVariants.{Class, SomeOf}
 use Rattle.dl_terms.proofs.DerivedLemmas as derived
@@ -30,7 +30,7 @@ use Rattle.dl_terms.proofs.MemberLemmas.{Contains-nil}
 use Rattle.dl_hier.specs.Predicates.{Predicates}
 use Rattle.dl_hier.specs.declared.below.Below.{Below}
 use Rattle.dl_join.specs.Disjuncts as join
-use Rattle.dl_join.specs.Disjuncts.{pair_cmp, AreSorted}
+use Rattle.dl_join.specs.Disjuncts.{AreSorted}
 use Rattle.std.specs.List.Sorted.{IsSorted}
 use Rattle.dl_join.specs.Tuples.{AreExactly}
 use Rattle.dl_answer.proofs.TupleLemmas.{exactly_none}

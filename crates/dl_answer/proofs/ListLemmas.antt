@@ -12,7 +12,8 @@ use Rattle.dl_hier.specs.declared.below.Below.{Below}
 use Rattle.dl_terms.specs.declared.query.Probe.TheVariants.{AnyOf, Joined}
 use Rattle.dl_terms.proofs.MemberLemmas.{Contains-nil}
 use Rattle.dl_join.specs.Disjuncts as join
-use Rattle.dl_join.specs.Disjuncts.{pair_cmp, AreSorted}
+use Rattle.dl_join.specs.Disjuncts.{AreSorted}
+use Rattle.dl_terms.specs.Order.{pair_cmp}
 use Rattle.dl_scan.specs.Sieves.{passes}
 use Rattle.dl_answer.specs.Probes.{AreBelowProbe, AreBehind, ArePairsBelow, IsListOf}
 use Rattle.dl_answer.specs.Kept.{AreFirst}

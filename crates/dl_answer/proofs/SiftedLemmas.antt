@@ -13,7 +13,8 @@ use Rattle.dl_terms.proofs.MemberLemmas.{Contains-nil, Contains-cons, Contains-f
 use Rattle.dl_hier.specs.Hierarchy.{Hierarchy, IsHierarchyOf}
 use Rattle.dl_hier.specs.declared.below.Below.{Below}
 use Rattle.dl_join.specs.Disjuncts as join
-use Rattle.dl_join.specs.Disjuncts.{name_of, pair_cmp, AllHold, AreSorted}
+use Rattle.dl_join.specs.Disjuncts.{name_of, AllHold, AreSorted}
+use Rattle.dl_terms.specs.Order.{pair_cmp}
 use Rattle.dl_scan.specs.Pairs.{IsPairBelow}
 use Rattle.dl_scan.specs.Sieves.{passes}
 use Rattle.dl_rewrite.specs.OverNames.{ProbeHolds}

@@ -13,7 +13,8 @@ use Rattle.dl_terms.specs.declared.query.Probe.TheVariants.{AnyOf, Joined}
 use Rattle.dl_terms.specs.declared.query.Disjunct.{Disjunct}
 use Rattle.dl_hier.specs.Hierarchy.{Hierarchy}
 use Rattle.dl_hier.specs.declared.below.Below.{Below}
-use Rattle.dl_join.specs.Disjuncts.{name_of, pair_cmp, IsTuple, IsSafe}
+use Rattle.dl_join.specs.Disjuncts.{name_of, IsTuple, IsSafe}
+use Rattle.dl_terms.specs.Order.{pair_cmp}
 use Rattle.dl_join.specs.Tuples.{AreExactly, AreMoreThan}
 use Rattle.dl_join.specs.declared.fault.JoinFault.{JoinFault}
 use Rattle.dl_join.specs.declared.fault.JoinFault.TheVariants.{TooMany, NoMemory}

@@ -17,7 +17,8 @@ use Rattle.dl_core.specs.declared.book.Book.{Book}
 use Rattle.dl_core.proofs.PinnedShardLemmas.{shard_says}
 use Rattle.dl_row.specs.declared.row.Row.{Row}
 use Rattle.dl_epoch.specs.Covering.{epoch_in}
-use Rattle.dl_scan.specs.Pairs.{IsPairBelow, visible_facts, pair_cmp, member, plain, turned}
+use Rattle.dl_scan.specs.Pairs.{IsPairBelow, visible_facts, member, plain, turned}
+use Rattle.dl_terms.specs.Order.{pair_cmp}
 use Rattle.dl_scan.specs.Scans.{Scan, Gains, TakesSifted}
 use Rattle.dl_scan.specs.Sieves.{passes_first}
 use Rattle.dl_scan.proofs.BelowLemmas.{pair-more, pair-either}

@@ -14,7 +14,7 @@ use Rattle.dl_hier.specs.Predicates.{Predicates, roles}
 use Rattle.dl_hier.specs.Hierarchy.{Hierarchy, IsHierarchyOf}
 use Rattle.dl_hier.specs.Below.{IsBelowOneOf, AreThose}
 use Rattle.dl_hier.specs.declared.below.Below.{Below}
-use Rattle.dl_join.specs.Disjuncts.{pair_cmp}
+use Rattle.dl_terms.specs.Order.{pair_cmp}
 use Rattle.dl_rewrite.specs.Known.{HasRolesOf}
 use Rattle.dl_scan.specs.Pairs.{IsPairBelow}
 use Rattle.dl_answer.specs.Facts.{HasPredicate}

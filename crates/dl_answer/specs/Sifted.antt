@@ -10,7 +10,8 @@ use Rattle.dl_terms.specs.declared.query.Probe.{Probe}
 use Rattle.dl_terms.specs.declared.query.Probe.TheVariants.{AnyOf, Joined}
 use Rattle.dl_hier.specs.declared.below.Below.{Below}
 use Rattle.dl_join.specs.Disjuncts as join
-use Rattle.dl_join.specs.Disjuncts.{name_of, pair_cmp, AllHold, AreSorted}
+use Rattle.dl_join.specs.Disjuncts.{name_of, AllHold, AreSorted}
+use Rattle.dl_terms.specs.Order.{pair_cmp}
 use Rattle.dl_scan.specs.Pairs.{IsPairBelow}
 use Rattle.dl_scan.specs.Sieves.{passes_first}
 use Rattle.dl_core.specs.Changes.{first_end}

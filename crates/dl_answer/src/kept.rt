@@ -5,7 +5,8 @@ ghost use Rattle.std.specs.List.Sorted.{IsSorted};
 ghost use Rattle.std.specs.declared.option.Option.{Option as Maybe};
 ghost use Rattle.dl_terms.specs.declared.axiom.Axiom.{Axiom};
 ghost use Rattle.dl_terms.specs.declared.axiom.Fact.{Fact};
-ghost use Rattle.dl_join.specs.Disjuncts.{pair_cmp, AreSorted};
+ghost use Rattle.dl_join.specs.Disjuncts.{AreSorted};
+ghost use Rattle.dl_terms.specs.Order.{pair_cmp};
 ghost use Rattle.dl_answer.specs.Probes.{AsksOneOf, AsksRole, AskAlike, HoldAlike};
 ghost use Rattle.dl_answer.specs.Kept.{IsKept, IsSlotKept, AreKept, AreFirst};
 

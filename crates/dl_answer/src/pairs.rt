@@ -2,7 +2,7 @@
 ghost use Rattle.std.specs.Prelude.{◌≡◌, ◌<◌, List as Items, IfOk};
 ghost use Rattle.std.specs.List.Sorted.{IsSorted};
 ghost use Rattle.dl_terms.specs.declared.axiom.Fact.{Fact};
-ghost use Rattle.dl_join.specs.Disjuncts.{pair_cmp};
+ghost use Rattle.dl_terms.specs.Order.{pair_cmp};
 ghost use Rattle.dl_answer.specs.Readers.{HasFacts, HasFetched};
 ghost use Rattle.dl_answer.specs.Probes.{ArePairsBelow};
 ghost use Rattle.dl_answer.specs.Sifted.{ArePairsSifted};

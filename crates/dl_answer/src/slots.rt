@@ -1,7 +1,7 @@
 // Slots for the lists of probes.
 ghost use Rattle.std.specs.Prelude.{◌≡◌, vec_len};
 ghost use Rattle.std.specs.List.Sorted.{IsSorted};
-ghost use Rattle.dl_join.specs.Disjuncts.{pair_cmp};
+ghost use Rattle.dl_terms.specs.Order.{pair_cmp};
 
 use dl_terms::{List, Pair, Probe};
 

@@ -13,7 +13,8 @@ use Rattle.dl_terms.specs.declared.query.Term.TheVariants.{Var, Name}
 use Rattle.dl_join.specs.declared.need.Need.{Need}
 use Rattle.dl_join.specs.declared.need.Column.{Column}
 use Rattle.dl_join.specs.declared.need.Column.TheVariants.{First}
-use Rattle.dl_join.specs.Disjuncts.{name_of, pair_cmp}
+use Rattle.dl_join.specs.Disjuncts.{name_of}
+use Rattle.dl_terms.specs.Order.{pair_cmp}
 use Rattle.dl_join.specs.Needs.{in_column, AreAscending, NeedHolds, Mentions}
 use Rattle.dl_join.specs.Searching.{IsGiven, IsCovered}
 use Rattle.dl_join.specs.Probing.{CanBeFitted}

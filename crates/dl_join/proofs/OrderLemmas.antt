@@ -17,7 +17,7 @@ use Rattle.dl_terms.proofs.OrderLemmas.{IsLinear, numbers_linear, pairs_linear}
 use Rattle.dl_join.specs.declared.need.Need.{Need}
 use Rattle.dl_join.specs.declared.need.Column.{Column}
 use Rattle.dl_join.specs.declared.need.Column.TheVariants.{First}
-use Rattle.dl_join.specs.Disjuncts.{pair_cmp}
+use Rattle.dl_terms.specs.Order.{pair_cmp}
 use Rattle.dl_join.specs.Needs.{in_column, AreAscending, Mentions, Fits}
 use Rattle.dl_join.specs.Probing.{OrdersAll, AddsVariables, is_first, IsBackward, AreTurned, IsFitted, CanBeFitted}
 use Rattle.dl_join.proofs.MergeLemmas.{sorted_at}

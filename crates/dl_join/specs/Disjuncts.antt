@@ -4,8 +4,7 @@
 use Rattle.std.specs.Prelude.{◌≡◌, ℕ, ◌<◌, ◌⊎◌, List, [], length, map, slice_index_or}
 use Rattle.std.specs.List.{All, Any, Contains}
 use Rattle.std.specs.List.Sorted.{IsSorted}
-use Rattle.std.specs.declared.cmp.Ordering.{Ordering}
-use Rattle.std.specs.Ordering.{nat_cmp, ordering_then}
+use Rattle.dl_terms.specs.Order.{pair_cmp}
 use Rattle.dl_terms.specs.declared.query.Term.{Term}
 use Rattle.dl_terms.specs.declared.query.Term.TheVariants.{Var, Name}
 use Rattle.dl_terms.specs.declared.query.Probe.{Probe}
@@ -41,10 +40,6 @@ HasVariable v (Joined role t u) = (t ≡ Var v) ⊎ (u ≡ Var v)
 -- each variable of the head is in a probe
 abbrev pub IsSafe : Disjunct → Type 0
 IsSafe d = (v : ℕ) → Contains d.head (Var v) → Any (HasVariable v) d.probes
-
--- pairs in order by their first names, and then by their second
-abbrev pub pair_cmp : ℕ × ℕ → ℕ × ℕ → Ordering
-pair_cmp p q = ordering_then (nat_cmp p.0 q.0) (nat_cmp p.1 q.1)
 
 -- each list is sorted
 abbrev pub AreSorted : List (List (ℕ × ℕ)) → Type 0

@@ -1,8 +1,6 @@
 -- The facts that rows stand for at a version, and the pairs of those below what is asked.
 use Rattle.std.specs.Prelude.{◌≡◌, ℕ, List, filter}
 use Rattle.std.specs.List.{Contains, filter_map}
-use Rattle.std.specs.declared.cmp.Ordering.{Ordering}
-use Rattle.std.specs.Ordering.{nat_cmp, ordering_then}
 use Rattle.dl_terms.specs.declared.axiom.Fact.{Fact}
 use Rattle.dl_terms.specs.declared.axiom.Fact.TheVariants.{Is, Link}
 use Rattle.dl_hier.specs.declared.below.Below.{Below}
@@ -19,7 +17,3 @@ pub data IsPairBelow (facts : List Fact) (below : Below) (p : ℕ × ℕ) : Type
   member : {c : ℕ} → Contains below.classes c → Contains facts (Is c p.0) → p.0 ≡ p.1 → IsPairBelow facts below p
   plain : {r : ℕ} → Contains below.forward r → Contains facts (Link r p.0 p.1) → IsPairBelow facts below p
   turned : {r : ℕ} → Contains below.backward r → Contains facts (Link r p.1 p.0) → IsPairBelow facts below p
-
--- pairs in order by their first names, and then by their second
-abbrev pub pair_cmp : ℕ × ℕ → ℕ × ℕ → Ordering
-pair_cmp p q = ordering_then (nat_cmp p.0 q.0) (nat_cmp p.1 q.1)

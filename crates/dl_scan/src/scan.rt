@@ -2,7 +2,8 @@
 ghost use Rattle.std.specs.Prelude.{◌≡◌, [], true, map, IfOk, OnOk};
 ghost use Rattle.dl_terms.specs.Sets.{IsSetOf};
 ghost use Rattle.dl_epoch.specs.Covering.{kept, epoch_in, AreEntries};
-ghost use Rattle.dl_scan.specs.Pairs.{IsPairBelow, visible_facts, pair_cmp};
+ghost use Rattle.dl_scan.specs.Pairs.{IsPairBelow, visible_facts};
+ghost use Rattle.dl_terms.specs.Order.{pair_cmp};
 ghost use Rattle.dl_scan.specs.Scans.{scan, Gains, Takes, TakesSifted};
 ghost use Rattle.dl_scan.specs.Sieves.{passes_first};
 

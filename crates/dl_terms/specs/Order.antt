@@ -86,3 +86,7 @@ fact_cmp (fact.Is c a) (fact.Is d b) = ordering_then (nat_cmp c d) (nat_cmp a b)
 fact_cmp (fact.Is c a) (fact.Link q x y) = nat_cmp 0 1
 fact_cmp (fact.Link p a b) (fact.Is d x) = nat_cmp 1 0
 fact_cmp (fact.Link p a b) (fact.Link q x y) = ordering_then (nat_cmp p q) (ordering_then (nat_cmp a x) (nat_cmp b y))
+
+-- pairs of names: by the first, and then by the second
+abbrev pub pair_cmp : ℕ × ℕ → ℕ × ℕ → Ordering
+pair_cmp p q = ordering_then (nat_cmp p.0 q.0) (nat_cmp p.1 q.1)

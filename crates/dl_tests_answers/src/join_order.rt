@@ -2,7 +2,8 @@
 // more than 1,000,000,000 names.
 ghost use Rattle.std.specs.Prelude.{◌≡◌, length, IfOk, OnOk};
 ghost use Rattle.std.specs.List.Sorted.{IsSorted};
-ghost use Rattle.dl_join.specs.Disjuncts.{pair_cmp, AreSorted};
+ghost use Rattle.dl_join.specs.Disjuncts.{AreSorted};
+ghost use Rattle.dl_terms.specs.Order.{pair_cmp};
 
 use dl_join::{is_safe, join};
 use dl_terms::{Disjunct, List, NoMemory, Pair, Probe, Term};

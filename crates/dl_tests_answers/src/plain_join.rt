@@ -1,7 +1,8 @@
 // Joins made by numbers that look random, beside a plain body that tries all names.
 ghost use Rattle.std.specs.Prelude.{◌≡◌, ◌<◌, length, IfOk, OnOk};
 ghost use Rattle.std.specs.List.Sorted.{IsSorted};
-ghost use Rattle.dl_join.specs.Disjuncts.{pair_cmp, AreSorted};
+ghost use Rattle.dl_join.specs.Disjuncts.{AreSorted};
+ghost use Rattle.dl_terms.specs.Order.{pair_cmp};
 
 use crate::join::{X, Y, Z, joined, probe_of, sorted};
 use dl_terms::{Disjunct, List, NoMemory, Pair, Probe, Term, Tuples};

@@ -1,7 +1,7 @@
 use Rattle.std.proofs.Common.{ℕ, ◌+◌, List, get_or, ap, ◌∙◌, arith}
 use Rattle.std.specs.Ordering.{is_lt, ordering_reverse}
 use Rattle.std.specs.List.Sorted.{IsSorted, IsStrictlySortedBy}
-use Rattle.dl_join.specs.Disjuncts.{pair_cmp}
+use Rattle.dl_terms.specs.Order.{pair_cmp}
 use Rattle.dl_join.proofs.MergeLemmas.{sorted_at}
 use Rattle.dl_join.proofs.OrderLemmas.{pair_linear}
 use Rattle.bench_facts.proofs.join.list_of.Goals as goal

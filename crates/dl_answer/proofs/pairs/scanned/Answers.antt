@@ -2,7 +2,7 @@ use Rattle.std.proofs.Common.{◌≡◌, ap, sym, subst, ◌∙◌, arith}
 use Rattle.std.specs.List.Sorted.{IsSorted}
 use Rattle.std.proofs.lemmas.Result.{IfOk-weaker}
 use Rattle.dl_terms.specs.Sets.{IsSetOf}
-use Rattle.dl_scan.specs.Pairs.{pair_cmp}
+use Rattle.dl_terms.specs.Order.{pair_cmp}
 use Rattle.dl_scan.specs.Scans.{Scan}
 use Rattle.dl_answer.specs.Sifted.{ArePairsSifted, ArePairsTaken}
 use Rattle.dl_answer.proofs.ReaderLemmas.{no_fetch, one_fetch, more_fetched, facts_kept}

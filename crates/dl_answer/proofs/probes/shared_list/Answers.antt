@@ -1,6 +1,6 @@
 use Rattle.std.proofs.Common.{sym, subst}
 use Rattle.std.specs.List.Sorted.{IsSorted}
-use Rattle.dl_join.specs.Disjuncts.{pair_cmp}
+use Rattle.dl_terms.specs.Order.{pair_cmp}
 use Rattle.dl_answer.specs.Probes.{HoldAlike}
 use Rattle.dl_answer.specs.Kept.{AreFirst}
 use Rattle.dl_answer.specs.Searches.{AreRead}

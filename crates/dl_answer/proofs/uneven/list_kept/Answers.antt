@@ -1,6 +1,6 @@
 use Rattle.std.proofs.Common.{sym, subst, ◌∙◌}
 use Rattle.std.specs.List.Sorted.{IsSorted}
-use Rattle.dl_join.specs.Disjuncts.{pair_cmp}
+use Rattle.dl_terms.specs.Order.{pair_cmp}
 use Rattle.dl_answer.specs.Probes.{HoldAlike}
 use Rattle.dl_answer.proofs.ReaderLemmas.{goes_and_keeps}
 use Rattle.dl_answer.proofs.uneven.list_kept.Goals as goal

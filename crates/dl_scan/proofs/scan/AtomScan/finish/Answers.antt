@@ -1,6 +1,6 @@
 use Rattle.std.proofs.Common.{subst}
 use Rattle.dl_terms.specs.Sets.{IsSetOf}
-use Rattle.dl_scan.specs.Pairs.{pair_cmp}
+use Rattle.dl_terms.specs.Order.{pair_cmp}
 use Rattle.dl_scan.specs.Scans.{Scan}
 use Rattle.dl_scan.proofs.scan.AtomScan.finish.Goals as goal
 
