@@ -2,15 +2,16 @@
 use Rattle.std.proofs.Common.{◌≡◌, ℕ, ◌<◌, ◌≤◌, Bool, true, false, cond, not, ◌&&◌, nat_le, List, [], ◌∷◌, length, refl, sym, ap, subst, ◌∙◌, true≢false, arith}
 use Rattle.std.proofs.lemmas.Bool.{leb-true, leb-false}
 use Rattle.std.proofs.lemmas.List.{length-append}
-use Rattle.dl_names.specs.NameList.{Text, max_names, has_name, names_after}
+use Rattle.dl_names.specs.NameList.{Text, max_names, has_name, names_after, has_no_place}
 use Rattle.dl_names.proofs.NameListLemmas.{names_after-old, names_after-new, Extends-names_after, length-Extends}
 use Rattle.dl_terms.specs.declared.query.Term.{Term}
 use Rattle.dl_terms.specs.declared.query.Term.TheVariants.{Name}
 use Rattle.dl_terms.specs.declared.query.Atom.TheVariants.{Link}
 use Rattle.dl_query.specs.declared.token.Mark.TheVariants.{Opening, Closing, Comma}
 use Rattle.dl_query.specs.Symbols.{Symbol, mark, Placed, symbols_of}
-use Rattle.dl_query.specs.Grammar.{Met, is_free, may_be_class, with_name, name_at, with_atom, IsTerm, variable_term, name_term, AtomThen, class_atom, role_atom, IsBody, last_atom, more_atoms, VariablesThen, last_variable, more_variables, HeadThen, no_variable, some_variables, nothing_met, IsQuery}
-use Rattle.dl_query.specs.Steps.{Expected, query_word, head_first, head_variable, head_end, predicate, body_more, terms_opening, first_more, second_term, second_closing, Cause, reserved, too_many_names, fault_of, Move, goes, refuses, ends, has_no_place, name_move, term_move, second_move, move_of}
+use Rattle.dl_query.specs.Grammar.{Met, with_name, name_at, with_atom, IsTerm, variable_term, name_term, AtomThen, class_atom, role_atom, IsBody, last_atom, more_atoms, VariablesThen, last_variable, more_variables, HeadThen, no_variable, some_variables, nothing_met, IsQuery}
+use Rattle.dl_names.specs.Iris.{is_free, may_be_class}
+use Rattle.dl_query.specs.Steps.{Expected, query_word, head_first, head_variable, head_end, predicate, body_more, terms_opening, first_more, second_term, second_closing, Cause, reserved, too_many_names, fault_of, Move, goes, refuses, ends, name_move, term_move, second_move, move_of}
 use Rattle.dl_query.specs.Reading.{Outcome, gives, fails, unfinished, outcome_of, outcome}
 
 -- ---- reading the tokens without their offsets

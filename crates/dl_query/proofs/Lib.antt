@@ -13,5 +13,4 @@ pub mod HeadLemmas
 pub mod StatementLemmas
 pub mod TokenLemmas
 pub mod QueryLemmas
-pub mod RankingLemmas
 pub mod PlaceLemmas

@@ -1,13 +1,14 @@
 -- What reading reads is of the grammar.
 use Rattle.std.proofs.Common.{◌≡◌, ℕ, zero, suc, ◌<◌, ◌≤◌, Bool, true, false, cond, not, List, [], ◌∷◌, length, refl, sym, ap, subst, ◌∙◌, arith}
-use Rattle.dl_names.specs.NameList.{Text, max_names}
+use Rattle.dl_names.specs.NameList.{Text, max_names, has_no_place}
 use Rattle.dl_terms.specs.declared.query.Term.{Term}
 use Rattle.dl_terms.specs.declared.query.Term.TheVariants.{Var, Name}
 use Rattle.dl_terms.specs.declared.query.Atom.TheVariants.{Is, Link}
 use Rattle.dl_query.specs.declared.token.Mark.TheVariants.{QueryWord, Opening, Closing, Comma, Turnstile, Ending}
 use Rattle.dl_query.specs.Symbols.{Symbol, mark, variable, iri, no_token}
-use Rattle.dl_query.specs.Grammar.{Met, is_free, may_be_class, with_variable, number_of, with_name, name_at, with_head, with_atom, IsTerm, variable_term, name_term, AtomThen, class_atom, role_atom, IsBody, last_atom, more_atoms, VariablesThen, last_variable, more_variables, HeadThen, no_variable, some_variables, nothing_met, IsQuery}
-use Rattle.dl_query.specs.Steps.{Expected, query_word, head_more, head_end, predicate, body_more, terms_opening, first_more, second_closing, reserved, too_many_names, goes, refuses, has_no_place, name_move, term_move, second_move}
+use Rattle.dl_query.specs.Grammar.{Met, with_variable, number_of, with_name, name_at, with_head, with_atom, IsTerm, variable_term, name_term, AtomThen, class_atom, role_atom, IsBody, last_atom, more_atoms, VariablesThen, last_variable, more_variables, HeadThen, no_variable, some_variables, nothing_met, IsQuery}
+use Rattle.dl_names.specs.Iris.{is_free, may_be_class}
+use Rattle.dl_query.specs.Steps.{Expected, query_word, head_more, head_end, predicate, body_more, terms_opening, first_more, second_closing, reserved, too_many_names, goes, refuses, name_move, term_move, second_move}
 use Rattle.dl_query.proofs.GrammarLemmas.{End, reads, stops, end_after, end_of, Fits, place-fits}
 
 -- ---- names and terms

@@ -1,7 +1,7 @@
 -- Reading an atom.
 use Rattle.std.proofs.Common.{◌≡◌, ◌≢◌, ℕ, ◌<◌, ◌≤◌, Bool, true, false, not, ◌&&◌, List, length, refl, sym, ap, subst, ◌∙◌, true≢false, arith, Bor}
 use Rattle.std.proofs.lemmas.Bool.{le-leb}
-use Rattle.dl_names.specs.NameList.{Text, max_names, has_name, names_after, place_of, Extends}
+use Rattle.dl_names.specs.NameList.{Text, max_names, has_name, names_after, place_of, Extends, has_no_place}
 use Rattle.dl_names.proofs.NameListLemmas.{Extends-names_after, Extends-same}
 use Rattle.dl_query.specs.declared.token.Token.{Token}
 use Rattle.dl_query.specs.declared.token.Token.TheVariants as tokens
@@ -16,8 +16,9 @@ use Rattle.dl_query.specs.declared.fault.QueryFault.TheVariants as faults
 use Rattle.dl_query.specs.declared.token.Mark.TheVariants.{Opening, Closing, Comma}
 use Rattle.dl_query.specs.declared.tokens.Tokens.{Tokens}
 use Rattle.dl_query.specs.Symbols.{Symbol, mark, variable, iri}
-use Rattle.dl_query.specs.Grammar.{Met, met, is_free, may_be_class, with_atom}
-use Rattle.dl_query.specs.Steps.{Expected, predicate, body_more, terms_opening, first_term, first_more, second_term, second_closing, reserved, too_many_names, goes, has_no_place, name_move, term_move, second_move, move_of}
+use Rattle.dl_query.specs.Grammar.{Met, met, with_atom}
+use Rattle.dl_names.specs.Iris.{is_free, may_be_class}
+use Rattle.dl_query.specs.Steps.{Expected, predicate, body_more, terms_opening, first_term, first_more, second_term, second_closing, reserved, too_many_names, goes, name_move, term_move, second_move, move_of}
 use Rattle.dl_query.specs.Parts.{Passes, next_symbol, next_at, Leads, Stops, Refuses, symbol_of}
 use Rattle.dl_query.proofs.StepLemmas.{Leads-goes, Leads-then, Leads-stops, Stops-here, name-goes, name-reserved, name-full}
 

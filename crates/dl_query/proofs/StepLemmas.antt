@@ -1,6 +1,6 @@
 -- Reading on: what a token that is passed over does, and what a fault behind it is.
 use Rattle.std.proofs.Common.{◌≡◌, ◌≢◌, ℕ, Bool, true, false, cond, not, List, refl, sym, ap, subst}
-use Rattle.dl_names.specs.NameList.{Text}
+use Rattle.dl_names.specs.NameList.{Text, has_no_place}
 use Rattle.dl_terms.specs.declared.query.Term.{Term}
 use Rattle.dl_query.specs.declared.fault.QueryFault.{QueryFault}
 use Rattle.dl_query.specs.declared.fault.QueryFault.TheVariants as faults
@@ -8,7 +8,7 @@ use Rattle.dl_query.specs.declared.token.Mark.TheVariants.{QueryWord, Opening, C
 use Rattle.dl_query.specs.declared.tokens.Tokens.{Tokens}
 use Rattle.dl_query.specs.Symbols.{Symbol, mark, variable, iri}
 use Rattle.dl_query.specs.Grammar.{Met, with_name, name_at}
-use Rattle.dl_query.specs.Steps.{Expected, query_word, head_opening, head_first, head_variable, head_more, head_end, predicate, body_more, terms_opening, first_more, second_closing, Cause, syntax, reserved, too_many_names, fault_of, Move, goes, refuses, ends, has_no_place, name_move, term_move, move_of}
+use Rattle.dl_query.specs.Steps.{Expected, query_word, head_opening, head_first, head_variable, head_more, head_end, predicate, body_more, terms_opening, first_more, second_closing, Cause, syntax, reserved, too_many_names, fault_of, Move, goes, refuses, ends, name_move, term_move, move_of}
 use Rattle.dl_query.specs.Reading.{gives, fails, HasOutcome}
 use Rattle.dl_query.specs.Parts.{Passes, next_symbol, next_at, Gives, Leads, Stops}
 use Rattle.dl_query.proofs.ReadingLemmas.{HasOutcome-goes, HasOutcome-refuses, HasOutcome-ends}

@@ -1,8 +1,7 @@
 -- The grammar of queries, with what it reads. It is this project's own.
-use Rattle.std.specs.Prelude.{◌≡◌, ℕ, Bool, true, not, ◌||◌, List, [], ◌∷◌, ◌++◌, length}
-use Rattle.std.specs.Str.{bytes_eq}
+use Rattle.std.specs.Prelude.{◌≡◌, ℕ, Bool, true, List, [], ◌∷◌, ◌++◌, length}
 use Rattle.dl_names.specs.NameList.{Text, names_after, place_of}
-use Rattle.dl_names.specs.Iris.{is_reserved, owl_nothing}
+use Rattle.dl_names.specs.Iris.{is_free, may_be_class}
 use Rattle.dl_terms.specs.declared.query.Term.{Term}
 use Rattle.dl_terms.specs.declared.query.Term.TheVariants.{Var, Name}
 use Rattle.dl_terms.specs.declared.query.Atom.{Atom}
@@ -20,14 +19,6 @@ pub record Met : Type 0 where
 
 abbrev pub met : List Text → List Text → List ℕ → List Atom → Met
 met variables names head atoms = record { variables = variables; names = names; head = head; atoms = atoms }
-
--- no reserved namespace begins the IRI: it may be a role or an individual
-abbrev pub is_free : Text → Bool
-is_free text = not (is_reserved text)
-
--- the IRI may be a class: it is free, or owl:Nothing
-abbrev pub may_be_class : Text → Bool
-may_be_class text = is_free text || bytes_eq owl_nothing text
 
 -- a variable is met, and its number: how many others were met before it
 abbrev pub with_variable : Met → Text → Met

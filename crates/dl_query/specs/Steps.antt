@@ -1,7 +1,7 @@
 -- What a reader of a query expects next, and what the next token does there. The grammar is LL(1) (Aho, Lam, Sethi,
 -- Ullman: Compilers, 4.4): what is expected and the next token alone say how reading goes on, or that it can't.
-use Rattle.std.specs.Prelude.{ℕ, Bool, not, ◌&&◌, nat_le, List, length, if◌then◌else◌}
-use Rattle.dl_names.specs.NameList.{Text, max_names, has_name}
+use Rattle.std.specs.Prelude.{ℕ, Bool, not, List, if◌then◌else◌}
+use Rattle.dl_names.specs.NameList.{Text, has_no_place}
 use Rattle.dl_terms.specs.declared.query.Term.{Term}
 use Rattle.dl_terms.specs.declared.query.Term.TheVariants.{Var, Name}
 use Rattle.dl_terms.specs.declared.query.Atom.TheVariants.{Is, Link}
@@ -9,7 +9,8 @@ use Rattle.dl_query.specs.declared.fault.QueryFault.{QueryFault}
 use Rattle.dl_query.specs.declared.fault.QueryFault.TheVariants.{Syntax, Reserved, TooManyNames}
 use Rattle.dl_query.specs.declared.token.Mark.TheVariants.{QueryWord, Opening, Closing, Comma, Turnstile, Ending}
 use Rattle.dl_query.specs.Symbols.{Symbol, mark, variable, iri}
-use Rattle.dl_query.specs.Grammar.{Met, is_free, may_be_class, number_of, with_variable, name_at, with_name, with_head, with_atom}
+use Rattle.dl_query.specs.Grammar.{Met, number_of, with_variable, name_at, with_name, with_head, with_atom}
+use Rattle.dl_names.specs.Iris.{is_free, may_be_class}
 
 pub data Expected : Type 0 where
   -- the word q, the ( behind it, a first variable of the head or ), a further one, what follows a variable of the head
@@ -47,10 +48,6 @@ pub data Move : Type 0 where
   goes : Expected → Met → Move
   refuses : Cause → Move
   ends : Move
-
--- there is no place for a name
-abbrev pub has_no_place : List Text → Text → Bool
-has_no_place names text = not (has_name names text) && nat_le max_names (length names)
 
 -- a name, where the IRI may be one
 abbrev pub name_move : (Text → Bool) → Met → Text → (ℕ → Expected) → Move

@@ -1,17 +1,17 @@
 // The atoms of a query text.
 ghost use Rattle.std.specs.Prelude.{◌≡◌, ◌≢◌, ◌<◌, ◌≤◌, ℕ, List, length, true, false, IfOk, IfErr, OnOk, OnErr};
-ghost use Rattle.dl_names.specs.NameList.{Text, max_names, names_after, place_of, Extends};
+ghost use Rattle.dl_names.specs.NameList.{Text, max_names, names_after, place_of, Extends, has_no_place};
 ghost use Rattle.dl_terms.specs.declared.query.Term.{Term};
 ghost use Rattle.dl_terms.specs.declared.query.Atom.{Atom};
-ghost use Rattle.dl_query.specs.Grammar.{met, may_be_class, with_atom};
-ghost use Rattle.dl_query.specs.Steps.{Expected, predicate, terms_opening, body_more, goes, has_no_place, term_move};
+ghost use Rattle.dl_query.specs.Grammar.{met, with_atom};
+ghost use Rattle.dl_query.specs.Steps.{Expected, predicate, terms_opening, body_more, goes, term_move};
 ghost use Rattle.dl_query.specs.Parts.{next_symbol, next_at, Passes, Leads, Stops, Refuses, term_of, atom_of, IsBelow, AreBelow};
 
 use crate::QueryFault;
 use crate::token::{Mark, Token};
 use crate::tokens::Tokens;
 use crate::variables::Variables;
-use dl_names::{NameFault, NameSet, is_reserved};
+use dl_names::{NameFault, NameSet, is_free, may_be_class};
 
 /// A term: a variable by its number, or a name by its place.
 #[derive(Clone, Copy)]
@@ -41,9 +41,6 @@ pub(crate) struct Predicate {
     /// Whether it may be a role.
     is_role: bool,
 }
-
-/// The class that may stand in an atom though its name is reserved.
-const OWL_NOTHING: &[u8] = b"http://www.w3.org/2002/07/owl#Nothing";
 
 /// The next atom.
 pub(crate) fn read_statement<'a>(
@@ -98,19 +95,12 @@ fn read_predicate(tokens: &mut Tokens<'_>, names: &mut NameSet) -> Result<Predic
     let Token::Iri(text) = token else {
         return Err(QueryFault::Syntax { at });
     };
-    if !may_be_class(text.as_bytes()) {
+    if !may_be_class(text) {
         return Err(QueryFault::Reserved { at });
     }
     let place = place_of(names, text, at)?;
-    let is_role = !is_reserved(text.as_bytes());
+    let is_role = is_free(text);
     Ok(Predicate { place, is_role })
-}
-
-/// Whether an IRI may be a class: it isn't reserved, or it is `owl:Nothing`.
-fn may_be_class(iri: &[u8]) -> bool
-    ensures { result ≡ may_be_class iri.now }
-{
-    !is_reserved(iri) || OWL_NOTHING == iri
 }
 
 /// The term that stands next.
@@ -140,7 +130,7 @@ fn read_term<'a>(
             Err(_) => Err(QueryFault::NoMemory),
         },
         Token::Iri(text) => {
-            if is_reserved(text.as_bytes()) {
+            if !is_free(text) {
                 return Err(QueryFault::Reserved { at });
             }
             let place = place_of(names, text, at)?;

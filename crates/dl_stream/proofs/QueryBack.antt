@@ -4,7 +4,7 @@ use Rattle.std.specs.List.{AllByRecursion, flat_map}
 use Rattle.std.proofs.lemmas.List.{map-append}
 use Rattle.std.proofs.lemmas.List.FromFn.{length-map-range_with_len}
 use Rattle.dl_names.specs.NameList.{Text, names_after, place_of, HasNoRepeats, Extends}
-use Rattle.dl_names.specs.Iris.{IsIri}
+use Rattle.dl_names.specs.Iris.{IsIri, is_free, may_be_class}
 use Rattle.dl_names.proofs.NameListLemmas.{Extends-same, Extends-trans, Extends-names_after, length-Extends, slice_get-Extends, slice_get-place_of, has_name-names_after, has_name-slice_get, names_after-old, place_of-slice_get}
 use Rattle.dl_terms.specs.declared.query.Term.{Term}
 use Rattle.dl_terms.specs.declared.query.Term.TheVariants.{Var, Name}
@@ -14,7 +14,7 @@ use Rattle.dl_terms.specs.declared.query.Query.{Query}
 use Rattle.dl_terms.specs.Occurring.{term_names, atom_names}
 use Rattle.dl_terms.specs.Renamed.{renamed_term, renamed_atom, renamed_query}
 use Rattle.dl_query.specs.Symbols.{Symbol, mark, variable, iri, no_token, next_front}
-use Rattle.dl_query.specs.Grammar.{Met, met, is_free, may_be_class, with_variable, number_of, with_name, name_at, with_head, with_atom, IsTerm, variable_term, name_term, AtomThen, class_atom, role_atom, IsBody, last_atom, more_atoms, VariablesThen, last_variable, more_variables, HeadThen, no_variable, some_variables, IsQuery, query_of}
+use Rattle.dl_query.specs.Grammar.{Met, met, with_variable, number_of, with_name, name_at, with_head, with_atom, IsTerm, variable_term, name_term, AtomThen, class_atom, role_atom, IsBody, last_atom, more_atoms, VariablesThen, last_variable, more_variables, HeadThen, no_variable, some_variables, IsQuery, query_of}
 use Rattle.dl_query.proofs.NumberLemmas.{head-atoms}
 use Rattle.dl_stream.specs.ReadBack.{text_at}
 use Rattle.dl_stream.proofs.VariableBack.{variable_name, variable_names, variables_back, number_back}

@@ -1,6 +1,5 @@
-use Rattle.std.proofs.Common.{◌∙◌, sym, ap, not}
+use Rattle.std.proofs.Common.{◌∙◌, sym, ap}
 use Rattle.std.proofs.lemmas.Result.{err_from_is_err_and}
-use Rattle.dl_names.specs.Iris.{is_reserved}
 use Rattle.dl_query.specs.declared.fault.QueryFault.TheVariants.{Syntax, Reserved, TooManyNames}
 use Rattle.dl_query.specs.Grammar.{met}
 use Rattle.dl_query.specs.Steps.{syntax}
@@ -9,17 +8,17 @@ use Rattle.dl_query.proofs.StatementLemmas.{iri-goes, iri-reserved, iri-full, va
 use Rattle.dl_query.proofs.StepLemmas.{other-term}
 use Rattle.dl_query.proofs.statement.read_term.Goals as goal
 
-pub returns-then-is_reserved-clause-refuses : goal.returns-then-is_reserved-clause-refuses
-returns-then-is_reserved-clause-refuses c = λ head atoms expected.
+pub returns-then-not-is_free-clause-refuses : goal.returns-then-not-is_free-clause-refuses
+returns-then-not-is_free-clause-refuses c = λ head atoms expected.
     iri-reserved (next_symbol c.args.tokens.now) c.in-Iri.text.now (sym c.next-at.ensures.token ∙ ap symbol_of c.in-Iri.is) c.args.variables.now c.args.names.now head atoms expected
-    (next_at c.args.tokens.now) (Reserved c.next-at.result.1) (ap not (ap is_reserved (sym c.as_bytes.ensures.value) ∙ sym c.if-is_reserved.ensures)) (ap Reserved c.next-at.ensures.at)
+    (next_at c.args.tokens.now) (Reserved c.next-at.result.1) (sym c.if-not-is_free.ensures) (ap Reserved c.next-at.ensures.at)
 
 pub returns-in_err-place-in-Iri-clause-refuses : goal.returns-in_err-place-in-Iri-clause-refuses
 returns-in_err-place-in-Iri-clause-refuses c =
     let p = err_from_is_err_and c.from_residual.result c.from_residual.ensures.1 in
     rw (p.1, p.2) (λ head atoms expected.
     iri-full (next_symbol c.args.tokens.now) c.in-Iri.text.now (sym c.next-at.ensures.token ∙ ap symbol_of c.in-Iri.is) c.args.variables.now c.args.names.now head atoms expected
-    (next_at c.args.tokens.now) c.in_err-place-in-Iri.field-0.0 (ap not (ap is_reserved (sym c.as_bytes.ensures.value) ∙ sym c.if-is_reserved.ensures))
+    (next_at c.args.tokens.now) c.in_err-place-in-Iri.field-0.0 (sym c.if-not-is_free.ensures)
     (λ no. let full = c.in_err-place-in-Iri.ensures.full no in (full.0 ∙ ap TooManyNames c.next-at.ensures.at, full.1)))
 
 pub returns-in_err-place-in-Iri-clause-grows : goal.returns-in_err-place-in-Iri-clause-grows
@@ -40,7 +39,7 @@ returns-in-Ok-clause-more c = variable-more c.args.variables.now c.number.new.se
 pub returns-in_ok-place-in-Iri-clause-ok : goal.returns-in_ok-place-in-Iri-clause-ok
 returns-in_ok-place-in-Iri-clause-ok c = λ head atoms expected.
     iri-goes (next_symbol c.args.tokens.now) c.in-Iri.text.now (sym c.next-at.ensures.token ∙ ap symbol_of c.in-Iri.is) c.args.variables.now c.args.names.now head atoms expected
-    c.place_of.new.names c.in_ok-place-in-Iri.place (ap not (ap is_reserved (sym c.as_bytes.ensures.value) ∙ sym c.if-is_reserved.ensures))
+    c.place_of.new.names c.in_ok-place-in-Iri.place (sym c.if-not-is_free.ensures)
     c.in_ok-place-in-Iri.ensures.room c.in_ok-place-in-Iri.ensures.named c.in_ok-place-in-Iri.ensures.place
 
 pub returns-in_ok-place-in-Iri-clause-grows : goal.returns-in_ok-place-in-Iri-clause-grows
