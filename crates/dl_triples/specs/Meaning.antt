@@ -1,10 +1,10 @@
 -- What a triple says (OWL 2 Mapping to RDF Graphs: class and object property assertions). What is skipped,
 -- what has no effect and what is reserved is this project's own.
-use Rattle.std.specs.Prelude.{ℕ, Bool, not, List, [], ◌∷◌, codes, Option, Some, None, if◌then◌else◌}
+use Rattle.std.specs.Prelude.{ℕ, Bool, List, [], ◌∷◌, codes, Option, Some, None, if◌then◌else◌}
 use Rattle.std.specs.List.{list_any}
 use Rattle.std.specs.Str.{bytes_eq}
 use Rattle.dl_names.specs.NameList.{Text, names_after, place_of}
-use Rattle.dl_names.specs.Iris.{is_reserved, owl_nothing, rdf_type}
+use Rattle.dl_names.specs.Iris.{is_free, owl_nothing, rdf_type}
 use Rattle.dl_terms.specs.declared.axiom.Fact.{Fact}
 use Rattle.dl_terms.specs.declared.axiom.Fact.TheVariants.{Is, Link}
 use Rattle.dl_triples.specs.declared.meaning.Kind.{Kind}
@@ -37,7 +37,7 @@ is_among iri iris = list_any (bytes_eq iri) iris
 -- what kind of IRI it is: a name where it isn't reserved
 abbrev pub kind_of : Text → Kind
 kind_of iri =
-    if not (is_reserved iri) then kinds.Name
+    if is_free iri then kinds.Name
     else if is_among iri annotation_properties then kinds.Annotation
     else if bytes_eq iri rdf_type then kinds.Type
     else if is_among iri universal_classes then kinds.Universal

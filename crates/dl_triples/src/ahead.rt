@@ -4,7 +4,7 @@ ghost use Rattle.dl_triples.specs.Progress.{AreCut};
 
 use crate::line::{Form, Triple, form_of};
 use crate::lines::first_line;
-use dl_names::{NameSet, is_reserved};
+use dl_names::{NameSet, is_free};
 use dl_terms::NoMemory;
 use std::alloc::Global;
 
@@ -92,15 +92,11 @@ impl<'a> Ahead<'a> {
     fn add(&mut self, form: Form<'a>) -> Result<(), NoMemory>
         ensures { OnOk result (self.new.forms.items ≡ self.old.forms.items ++ form.entry ∷ []) }
     {
-        let Ok(()) = self.firsts.push(self.texts.len()) else {
-            return Err(NoMemory);
-        };
+        self.firsts.push(self.texts.len())?;
         if let Form::Triple(triple) = form {
             add_texts(triple, &mut self.texts)?;
         }
-        let Ok(()) = self.forms.push(form) else {
-            return Err(NoMemory);
-        };
+        self.forms.push(form)?;
         Ok(())
     }
 
@@ -125,18 +121,10 @@ fn add_texts<'a>(triple: Triple<'a>, texts: &mut Vec<&'a str>) -> Result<(), NoM
     let Some(object) = triple.object else {
         return Ok(());
     };
-    push(texts, triple.subject.text)?;
-    push(texts, object.text)?;
-    if !is_reserved(triple.predicate.text.as_bytes()) {
-        push(texts, triple.predicate.text)?;
+    texts.push(triple.subject.text)?;
+    texts.push(object.text)?;
+    if is_free(triple.predicate.text) {
+        texts.push(triple.predicate.text)?;
     }
-    Ok(())
-}
-
-/// Adds a text at the end.
-fn push<'a>(texts: &mut Vec<&'a str>, text: &'a str) -> Result<(), NoMemory> {
-    let Ok(()) = texts.push(text) else {
-        return Err(NoMemory);
-    };
     Ok(())
 }

@@ -4,7 +4,7 @@ ghost use Rattle.std.specs.Str.{bytes_eq};
 ghost use Rattle.dl_names.specs.Iris.{owl_nothing, rdf_type};
 ghost use Rattle.dl_triples.specs.Meaning.{is_among, annotation_properties, universal_classes, kind_of, meaning_of_kinds};
 
-use dl_names::is_reserved;
+use dl_names::{OWL_NOTHING, is_free};
 
 /// The kinds of IRIs.
 #[derive(Clone, Copy)]
@@ -42,7 +42,7 @@ pub(crate) enum Meaning {
 pub(crate) fn kind_of(iri: &str) -> Kind
     ensures { result ≡ kind_of iri.now }
 {
-    if !is_reserved(iri.as_bytes()) {
+    if is_free(iri) {
         return Kind::Name;
     }
     if is_annotation(iri) {
@@ -83,7 +83,7 @@ fn is_type(iri: &str) -> bool
 fn is_nothing(iri: &str) -> bool
     ensures { result ≡ bytes_eq iri.now owl_nothing }
 {
-    iri == "http://www.w3.org/2002/07/owl#Nothing"
+    iri == OWL_NOTHING
 }
 
 fn is_universal(iri: &str) -> bool
