@@ -25,12 +25,13 @@ use Rattle.dl_terms.specs.declared.query.Atom.TheVariants as atom
 use Rattle.dl_terms.specs.declared.query.Query.{Query}
 use Rattle.dl_terms.proofs.MemberLemmas.{Contains-first, Contains-later, Contains-middle}
 use Rattle.dl_terms.proofs.AuxiliaryLemmas.{row_allowed}
-use Rattle.dl_models.specs.Meaning.{turned, BaseLinks, IsInBasic, StandsFor, AtomHolds, GivesHead, HasElement, term_individuals, atom_individuals, individuals_of, QueryHolds, Accepts, IsModel}
+use Rattle.dl_models.specs.Meaning.{turned, BaseLinks, IsInBasic, StandsFor, AtomHolds, GivesHead, HasElement, atom_individuals, individuals_of, QueryHolds, Accepts, IsModel}
 use Rattle.dl_models.specs.Structures.{finite}
 use Rattle.dl_models.specs.declared.interp.Interp.{Interp}
 use Rattle.dl_models.proofs.ListLemmas.{Contains-flat_map, All-flat_map, All-filter_map}
 use Rattle.dl_models.proofs.RowLemmas.{NegativeHolds, RowHolds, rows_hold}
 use Rattle.dl_models.proofs.MapLemmas.{image, named_by-is, image-below, image-in, image-links}
+use Rattle.dl_terms.specs.Occurring.{term_names}
 
 -- no negative is among the rows that say "some r in C"
 never-filled : (n : Negative) → IsFilled (never n) → ⊥
@@ -51,7 +52,7 @@ module _ (model : Interp) (axioms : List Axiom) (facts : List Fact) (nothing : O
 
     -- ---- atoms
 
-    term-stands : (t : Term) → All (HasElement (finite model)) (term_individuals t) → StandsFor (finite model) images t (image model (value_of m t))
+    term-stands : (t : Term) → All (HasElement (finite model)) (term_names t) → StandsFor (finite model) images t (image model (value_of m t))
     term-stands (Var v) names = refl
     term-stands (Name a) names =
         let h = All-head (HasElement (finite model)) a [] names in
@@ -79,8 +80,8 @@ module _ (model : Interp) (axioms : List Axiom) (facts : List Fact) (nothing : O
         let Known : ℕ → Type 0 = HasElement (finite model) in (
           image model (value_of m t),
           image model (value_of m u),
-          term-stands t (left Known (term_individuals t) (term_individuals u) names),
-          term-stands u (right Known (term_individuals t) (term_individuals u) names),
+          term-stands t (left Known (term_names t) (term_names u) names),
+          term-stands u (right Known (term_names t) (term_names u) names),
           image-links model axioms facts nothing no_auxiliary is (named p) (value_of m t) (value_of m u)
               (term-element t (left Here (term_variables t) (term_variables u) each)) (term-element u (right Here (term_variables t) (term_variables u) each)) h,
         )

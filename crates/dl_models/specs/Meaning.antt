@@ -20,6 +20,7 @@ use Rattle.dl_terms.specs.declared.query.Term.TheVariants.{Var, Name}
 use Rattle.dl_terms.specs.declared.query.Atom.{Atom}
 use Rattle.dl_terms.specs.declared.query.Atom.TheVariants as atom
 use Rattle.dl_terms.specs.declared.query.Query.{Query}
+use Rattle.dl_terms.specs.Occurring.{term_names}
 
 -- a structure: its elements, which of them a name denotes, those in a class, and those that an object property links
 pub record Structure : Type 1 where
@@ -124,13 +125,9 @@ GivesHead i m (v ∷ head) (a ∷ tuple) = i.Denotes a (m v) × GivesHead i m he
 abbrev pub HasElement : (i : Structure) → ℕ → Type 0
 HasElement i a = (x : i.Value) × i.Denotes a x
 
-abbrev pub term_individuals : Term → List ℕ
-term_individuals (Var v) = []
-term_individuals (Name a) = a ∷ []
-
 abbrev pub atom_individuals : Atom → List ℕ
-atom_individuals (atom.Is c t) = term_individuals t
-atom_individuals (atom.Link p t u) = term_individuals t ++ term_individuals u
+atom_individuals (atom.Is c t) = term_names t
+atom_individuals (atom.Link p t u) = term_names t ++ term_names u
 
 -- the individuals that a query names, in the order of its terms
 abbrev pub individuals_of : Query → List ℕ
