@@ -1,5 +1,5 @@
 -- The grammar of queries, with what it reads. It is this project's own.
-use Rattle.std.specs.Prelude.{◌≡◌, ℕ, Bool, true, List, [], ◌∷◌, ◌++◌, length}
+use Rattle.std.specs.Prelude.{◌≡◌, ℕ, true, List, [], ◌∷◌, ◌++◌, length}
 use Rattle.dl_names.specs.NameList.{Text, names_after, place_of}
 use Rattle.dl_names.specs.Iris.{is_free, may_be_class}
 use Rattle.dl_terms.specs.declared.query.Term.{Term}

@@ -1,6 +1,6 @@
 -- What a reader of a query expects next, and what the next token does there. The grammar is LL(1) (Aho, Lam, Sethi,
 -- Ullman: Compilers, 4.4): what is expected and the next token alone say how reading goes on, or that it can't.
-use Rattle.std.specs.Prelude.{ℕ, Bool, not, List, if◌then◌else◌}
+use Rattle.std.specs.Prelude.{ℕ, Bool, not, if◌then◌else◌}
 use Rattle.dl_names.specs.NameList.{Text, has_no_place}
 use Rattle.dl_terms.specs.declared.query.Term.{Term}
 use Rattle.dl_terms.specs.declared.query.Term.TheVariants.{Var, Name}

@@ -64,9 +64,7 @@ impl Body {
         ensures ok { IfOk result (λ body. Keeps body [] heads heads) }
         ensures err { IfErr result (λ fault. fault ≡ QueryFault.NoMemory) }
     {
-        let Ok(bound) = unmarked(alloc, heads) else {
-            return Err(QueryFault::NoMemory);
-        };
+        let bound = unmarked(alloc, heads)?;
         Ok(Body {
             count: 0,
             kept: List::new(alloc),
@@ -86,9 +84,7 @@ impl Body {
         self.count += 1;
         mark_all(&mut self.bound, statement);
         if self.count <= MAX_ATOMS && variables <= MAX_KEPT_VARIABLES {
-            let Ok(()) = self.kept.push(atom(statement)) else {
-                return Err(QueryFault::NoMemory);
-            };
+            self.kept.push(atom(statement))?;
         }
         Ok(())
     }

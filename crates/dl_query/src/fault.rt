@@ -1,3 +1,5 @@
+use dl_terms::NoMemory;
+use std::alloc::{AllocError, AllocFailed};
 use thiserror::Error;
 
 /// Why a text gives no query. Offsets `at` are those of the first bytes of tokens, from 0; head places are counted
@@ -35,4 +37,37 @@ pub enum QueryFault {
     /// Memory was refused.
     #[error("no memory")]
     NoMemory,
+}
+
+impl From<AllocError> for QueryFault {
+    ghost use Rattle.std.specs.Prelude.{◌≡◌};
+    ghost use Rattle.dl_query.specs.declared.fault.QueryFault.TheVariants.{NoMemory};
+
+    ghost from_gives = { λ _ fault. fault ≡ NoMemory };
+
+    fn from(_refused: AllocError) -> QueryFault {
+        QueryFault::NoMemory
+    }
+}
+
+impl<T: Drop> From<AllocFailed<T>> for QueryFault {
+    ghost use Rattle.std.specs.Prelude.{◌≡◌};
+    ghost use Rattle.dl_query.specs.declared.fault.QueryFault.TheVariants.{NoMemory};
+
+    ghost from_gives = { λ _ fault. fault ≡ NoMemory };
+
+    fn from(_refused: AllocFailed<T>) -> QueryFault {
+        QueryFault::NoMemory
+    }
+}
+
+impl From<NoMemory> for QueryFault {
+    ghost use Rattle.std.specs.Prelude.{◌≡◌};
+    ghost use Rattle.dl_query.specs.declared.fault.QueryFault.TheVariants.{NoMemory};
+
+    ghost from_gives = { λ _ fault. fault ≡ NoMemory };
+
+    fn from(_refused: NoMemory) -> QueryFault {
+        QueryFault::NoMemory
+    }
 }

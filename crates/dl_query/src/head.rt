@@ -99,11 +99,7 @@ fn add<'a>(
     ensures numbers { OnOk result (AreNumbers head.new.items (length variables.new)) }
     ensures err { IfErr result (λ fault. fault ≡ QueryFault.NoMemory) }
 {
-    let Ok(number) = variables.number(name) else {
-        return Err(QueryFault::NoMemory);
-    };
-    let Ok(()) = head.push(number) else {
-        return Err(QueryFault::NoMemory);
-    };
+    let number = variables.number(name)?;
+    head.push(number)?;
     Ok(())
 }

@@ -67,9 +67,7 @@ fn judged(
             head: head.len() as u64,
         });
     }
-    let Ok(head) = narrowed(alloc, head) else {
-        return Err(QueryFault::NoMemory);
-    };
+    let head = narrowed(alloc, head)?;
     Ok(Query {
         head,
         atoms: body.kept,

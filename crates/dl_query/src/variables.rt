@@ -43,9 +43,7 @@ impl<'a> Variables<'a> {
         ensures met { OnOk result (self.new ≡ names_after self.old name.now) }
         ensures number { IfOk result (λ n. n ≡ place_of (names_after self.old name.now) name.now) }
     {
-        let Ok((number, _)) = self.names.insert_full(name) else {
-            return Err(NoMemory);
-        };
+        let (number, _) = self.names.insert_full(name)?;
         Ok(number)
     }
 }

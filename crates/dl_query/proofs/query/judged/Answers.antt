@@ -23,6 +23,6 @@ returns-then-body-gt16-clause-fault c = λ no m j.
 
 pub returns-clause-ok : goal.returns-clause-ok
 returns-clause-ok c = λ m j.
-    kept-query m c.args.head.now c.args.body c.args.heads c.args.variables c.requires.numbers c.requires.more j c.in-Ok.head c.in-Ok.ensures
+    kept-query m c.args.head.now c.args.body c.args.heads c.args.variables c.requires.numbers c.requires.more j c.in_ok-head.head c.in_ok-head.ensures
     (ap (λ b. position (λ v. not (get_or b v false)) c.args.head.now) (sym c.deref.ensures.value) ∙ sym c.first_unbound.ensures ∙ c.in_default.is)
     c.if-body-gt16.false c.if-existential-gt8.false c.if-head-gt16.false _ refl

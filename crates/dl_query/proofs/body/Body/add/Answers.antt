@@ -7,10 +7,10 @@ use Rattle.dl_query.proofs.body.Body.add.Goals.{else-self-le-MAX_ATOMS-via-then-
 pub atom-requires : goal.atom-requires
 atom-requires c = AreBelow-more c.args.variables 256 c.args.statement c.if-variables-le-MAX_KEPT_VARIABLES.true c.requires.below
 
-pub returns-in-Ok-clause-ok : goal.returns-in-Ok-clause-ok
-returns-in-Ok-clause-ok c = λ atoms before heads grows keeps.
+pub returns-in_ok-push-clause-ok : goal.returns-in_ok-push-clause-ok
+returns-in_ok-push-clause-ok c = λ atoms before heads grows keeps.
     Keeps-added c.args.self.now _ atoms (atom_of c.args.statement) before c.args.variables heads grows keeps refl c.mark_all.ensures
-    (λ few short. c.in-Ok.ensures.ok ∙ ap (λ x. c.args.self.now.kept ++ x ∷ []) c.atom.ensures)
+    (λ few short. c.in_ok-push.ensures.ok ∙ ap (λ x. c.args.self.now.kept ++ x ∷ []) c.atom.ensures)
 
 pub returns-else-self-le-MAX_ATOMS-clause-ok : goal.returns-else-self-le-MAX_ATOMS-clause-ok
 returns-else-self-le-MAX_ATOMS-clause-ok c = λ atoms before heads grows keeps.

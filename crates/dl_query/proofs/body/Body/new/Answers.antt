@@ -7,6 +7,6 @@ pub returns-clause-ok : goal.returns-clause-ok
 returns-clause-ok c = record {
   counted = refl;
   kept = λ few short. c.new.ensures;
-  marks = ap length c.in-Ok.ensures ∙ length-replicate c.args.heads false;
-  marked = λ v h. ap (λ l. get_or l v false) c.in-Ok.ensures ∙ get_or-replicate c.args.heads v false false h;
+  marks = ap length c.in_ok-bound.ensures ∙ length-replicate c.args.heads false;
+  marked = λ v h. ap (λ l. get_or l v false) c.in_ok-bound.ensures ∙ get_or-replicate c.args.heads v false false h;
 }
