@@ -13,7 +13,6 @@ pub mod Exact
 pub mod TokenLists
 pub mod Whole
 pub mod Stops
-pub mod TextLemmas
 pub mod AheadLemmas
 pub mod WalkLemmas
 pub mod CursorLemmas

@@ -19,7 +19,8 @@ use Rattle.dl_owl.specs.Prefixes.{Prefixes, predefined}
 use Rattle.dl_owl.specs.NamesNext.{IsNameOf}
 use Rattle.dl_owl.specs.Expressions as expressions
 use Rattle.dl_owl.specs.Expressions.{RoleThen, SubThen, SupThen, SupsThen, RolesThen, SubsThen}
-use Rattle.dl_owl.specs.Items.{empty_document, with_item, property_of}
+use Rattle.dl_owl.specs.Items.{empty_document, with_item}
+use Rattle.dl_text.specs.AxiomText.{property_of}
 use Rattle.dl_owl.specs.Axioms as axioms
 use Rattle.dl_owl.specs.Axioms.{EntityThen, OperandsThen, AxiomThen}
 use Rattle.dl_owl.specs.Ontologies as ontologies

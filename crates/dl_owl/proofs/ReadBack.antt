@@ -31,7 +31,7 @@ use Rattle.dl_owl.specs.Items.{empty_document}
 use Rattle.dl_owl.specs.Axioms.{AxiomThen}
 use Rattle.dl_owl.specs.Expected.{Expected, prologue, lone_axiom}
 use Rattle.dl_owl.specs.Reading.{ReadsValue, is_shallow}
-use Rattle.dl_owl.specs.AxiomText.{axiom_text}
+use Rattle.dl_text.specs.AxiomText.{axiom_text}
 use Rattle.dl_owl.proofs.Whole.{ontology_read, lone_read, is_lone}
 use Rattle.dl_owl.proofs.IriTexts.{iri_of_characters, IsIri-behind_colon}
 use Rattle.dl_owl.proofs.Spelling.{between, tokens_of}

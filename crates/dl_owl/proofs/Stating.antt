@@ -30,8 +30,9 @@ use Rattle.dl_owl.specs.declared.item.Item.TheVariants.{Axiom as axiom_item}
 use Rattle.dl_owl.specs.Axioms as grammar_axioms
 use Rattle.dl_owl.specs.Axioms.{OperandsThen, AxiomThen}
 use Rattle.dl_owl.specs.Reading.{is_shallow}
-use Rattle.dl_owl.specs.AxiomText.{joined, construct_text, iri_text, class_text, role_text, basic_text, part_text, parts_text, axiom_keyword, operand_texts, axiom_text}
-use Rattle.dl_owl.proofs.TextLemmas.{class_text-nothing, class_text-other}
+use Rattle.dl_text.specs.AxiomText.{joined, construct_text, class_text, role_text, basic_text, part_text, parts_text, axiom_keyword, operand_texts, axiom_text}
+use Rattle.dl_text.specs.NameText.{name_text}
+use Rattle.dl_text.proofs.TextLemmas.{class_text-nothing, class_text-other}
 use Rattle.dl_owl.proofs.Spelling as spelling
 use Rattle.dl_owl.proofs.Spelling.{IsRunWord, EndsRun, Spells}
 
@@ -219,7 +220,7 @@ module _ (names : List Text) (distinct : HasNoRepeats names) where
     at = sym (place_of-slice_get names h.text distinct n h.at);
   }
 
-  iri_says : (allowed : Text → Bool) (n : ℕ) (h : IsStated names allowed n) → Says (iri_text names n) (λ rest. full_iri h.text ∷ rest) 0
+  iri_says : (allowed : Text → Bool) (n : ℕ) (h : IsStated names allowed n) → Says (name_text names n) (λ rest. full_iri h.text ∷ rest) 0
   iri_says allowed n h =
       subst (λ t. Says (60 ∷ unwrap_or t [] ++ 62 ∷ []) (λ rest. full_iri h.text ∷ rest) 0) (sym h.at) (Says-iri h.text h.iri)
 
@@ -256,13 +257,13 @@ module _ (names : List Text) (distinct : HasNoRepeats names) where
   role_stands : (r : Role) → RoleIn names r → RoleStands r
   role_stands _ (plain {n = n} h) = record {
     f = λ rest. full_iri h.text ∷ rest;
-    says = Says-deeper (iri_text names n) (λ rest. full_iri h.text ∷ rest) 0 1 (omega arith) (iri_says is_free n h);
+    says = Says-deeper (name_text names n) (λ rest. full_iri h.text ∷ rest) 0 1 (omega arith) (iri_says is_free n h);
     stands = λ rest. expressions.RoleThen.plain (name_of is_free n h (full_iri h.text) refl);
   }
   role_stands _ (inverse {n = n} h) = record {
     f = λ rest. keyword keywords.ObjectInverseOf ∷ opening ∷ full_iri h.text ∷ closing ∷ rest;
     says =
-        Says-construct keywords.ObjectInverseOf (iri_text names n ∷ []) (λ rest. full_iri h.text ∷ rest) 0 inverse_word
+        Says-construct keywords.ObjectInverseOf (name_text names n ∷ []) (λ rest. full_iri h.text ∷ rest) 0 inverse_word
         (a_text (iri_says is_free n h) no_texts);
     stands = λ rest. expressions.RoleThen.inverse (name_of is_free n h (full_iri h.text) refl);
   }

@@ -15,7 +15,8 @@ use Rattle.dl_owl.specs.Annotations.{ValueThen, AnnotationsThen}
 use Rattle.dl_owl.specs.Expressions.{RoleThen, SubThen, SupThen, RolesThen, SubsThen}
 use Rattle.dl_owl.specs.declared.item.Item.{Item}
 use Rattle.dl_owl.specs.declared.item.Item.TheVariants.{Axiom as axiom_item, Fact as fact_item, Class as class_item, Role as role_item, NoEffect as no_effect}
-use Rattle.dl_owl.specs.Items.{property_of, link}
+use Rattle.dl_owl.specs.Items.{link}
+use Rattle.dl_text.specs.AxiomText.{property_of}
 
 -- the entities that may be declared without effect
 abbrev pub is_other_entity : Keyword → Bool

@@ -3,8 +3,7 @@ use Rattle.std.specs.Prelude.{ℕ, [], ◌∷◌, ◌++◌, if◌then◌else◌}
 use Rattle.dl_terms.specs.declared.role.Role.{Role}
 use Rattle.dl_terms.specs.declared.axiom.Fact.{Fact}
 use Rattle.dl_terms.specs.declared.axiom.Fact.TheVariants.{Link}
-use Rattle.dl_terms.specs.declared.role.Base.{Base}
-use Rattle.dl_terms.specs.declared.role.Base.TheVariants.{Named, Auxiliary}
+use Rattle.dl_text.specs.AxiomText.{property_of}
 use Rattle.dl_owl.specs.declared.document.Document.{Document}
 use Rattle.dl_owl.specs.declared.item.Item.{Item}
 use Rattle.dl_owl.specs.declared.item.Item.TheVariants.{Axiom as axiom_item, Fact as fact_item, Class as class_item, Role as role_item, NoEffect as no_effect}
@@ -19,14 +18,6 @@ with_item d (fact_item f) = record d { facts = d.facts ++ f ∷ [] }
 with_item d (class_item n) = record d { classes = d.classes ++ n ∷ [] }
 with_item d (role_item n) = record d { roles = d.roles ++ n ∷ [] }
 with_item d no_effect = d
-
--- the object property of a role, which is no filler here
-abbrev pub property_of_base : Base → ℕ
-property_of_base (Named n) = n
-property_of_base (Auxiliary n i c) = n
-
-abbrev pub property_of : Role → ℕ
-property_of r = property_of_base r.base
 
 -- a role joins two individuals: by its object property, and turned where it is an inverse
 abbrev pub link : Role → ℕ → ℕ → Fact

@@ -11,7 +11,6 @@ pub mod Expected
 pub mod Refused
 pub mod Steps
 pub mod Reading
-pub mod AxiomText
 pub mod Walk
 pub mod Entities
 pub mod Documents

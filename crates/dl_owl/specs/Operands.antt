@@ -6,7 +6,8 @@ use Rattle.dl_terms.specs.declared.role.Role.{Role}
 use Rattle.dl_terms.specs.declared.axiom.Axiom.TheVariants as axioms
 use Rattle.dl_owl.specs.declared.item.Item.{Item}
 use Rattle.dl_owl.specs.declared.item.Item.TheVariants.{Axiom as axiom_item, Fact as fact_item, Role as role_item, NoEffect as no_effect}
-use Rattle.dl_owl.specs.Items.{property_of, link}
+use Rattle.dl_owl.specs.Items.{link}
+use Rattle.dl_text.specs.AxiomText.{property_of}
 use Rattle.dl_owl.specs.Axioms.{is_annotation_axiom}
 use Rattle.dl_owl.specs.Expected.{Expected, close_then, iri_then, subject_then, value_then, role_then, first_role, second_role, sub_then, sup_then, roles_close, subs_close, individual_then, different_close, class_then, entity_then}
 use Rattle.dl_owl.specs.Steps.{member_then, role_and_sup}

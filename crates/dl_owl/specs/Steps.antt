@@ -20,7 +20,8 @@ use Rattle.dl_owl.specs.Prefixes.{Prefixes, prefix_of, local_of, declared_iri, e
 use Rattle.dl_owl.specs.NamesNext.{owl_thing, owl_top_object_property, is_free, may_be_class}
 use Rattle.dl_owl.specs.declared.item.Item.{Item}
 use Rattle.dl_owl.specs.declared.item.Item.TheVariants.{Axiom as axiom_item, Fact as fact_item, Class as class_item, Role as role_item, NoEffect as no_effect}
-use Rattle.dl_owl.specs.Items.{empty_document, with_item, property_of, link}
+use Rattle.dl_owl.specs.Items.{empty_document, with_item, link}
+use Rattle.dl_text.specs.AxiomText.{property_of}
 use Rattle.dl_owl.specs.Axioms.{is_other_entity, is_annotation_axiom}
 use Rattle.dl_owl.specs.Refused.{keyword_left_out, refused_axiom, refused_sup, refused_sub, begins_class}
 use Rattle.dl_owl.specs.Expected.{Expected, prologue, prefix_name, prefix_equals, prefix_iri, title, annotations_first, items, lone_axiom, finish, done, open_then, close_then, annotations_then, iri_then, subject_then, value_then, value_end, property_then, role_then, first_role, second_role, sub_then, sup_then, thing_then, filler_then, roles_close, subs_close, sups_close, individual_then, unnamed_then, different_close, class_then, declared_class, entity_then, Move, goes, takes_name, declares, refuses}

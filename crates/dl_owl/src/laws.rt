@@ -5,7 +5,7 @@ ghost use Rattle.dl_terms.specs.declared.axiom.Axiom.{Axiom};
 ghost use Rattle.dl_terms.specs.Occurring.{axiom_names};
 ghost use Rattle.dl_terms.specs.Renamed.{renamed_axiom};
 ghost use Rattle.dl_owl.specs.declared.document.Document.{Document};
-ghost use Rattle.dl_owl.specs.AxiomText.{axiom_text};
+ghost use Rattle.dl_text.specs.AxiomText.{axiom_text};
 ghost use Rattle.dl_owl.specs.Items.{empty_document};
 ghost use Rattle.dl_owl.specs.Symbols.{Placed, symbols_of, AreTokens};
 ghost use Rattle.dl_owl.specs.Causes.{Cause};

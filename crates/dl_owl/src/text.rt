@@ -2,9 +2,9 @@
 ghost use Rattle.std.specs.Prelude.{◌≡◌, ◌<◌, ◌++◌, ◌∷◌, [], All, length, map, string_bytes, IfOk, OnOk};
 ghost use Rattle.std.specs.List.{flat_map};
 ghost use Rattle.dl_lex.specs.Keywords.{keyword_text};
-ghost use Rattle.dl_owl.specs.Items.{property_of};
+ghost use Rattle.dl_text.specs.AxiomText.{property_of, joined, class_text, role_text, some_text, basic_text, part_text, parts_text, axiom_keyword, operand_texts, axiom_text};
 ghost use Rattle.dl_terms.specs.Occurring.{role_names, basic_names, part_names, axiom_names};
-ghost use Rattle.dl_owl.specs.AxiomText.{AreBelow, joined, iri_text, class_text, role_text, some_text, basic_text, part_text, parts_text, axiom_keyword, operand_texts, axiom_text};
+ghost use Rattle.dl_text.specs.NameText.{AreBelow, name_text};
 
 use dl_lex::Keyword;
 use dl_names::Names;
@@ -16,7 +16,7 @@ const OWL_NOTHING: &str = "http://www.w3.org/2002/07/owl#Nothing";
 /// The name of a number in full, in `<` and `>`.
 fn push_iri(out: &mut String, n: u32, names: &Names) -> Result<(), AllocError>
     requires { n < length names.now }
-    ensures { OnOk result (string_bytes out.new ≡ string_bytes out.old ++ iri_text names.now n) }
+    ensures { OnOk result (string_bytes out.new ≡ string_bytes out.old ++ name_text names.now n) }
 {
     out.push_str("<")?;
     out.push_str(names.text(n))?;
@@ -24,7 +24,7 @@ fn push_iri(out: &mut String, n: u32, names: &Names) -> Result<(), AllocError>
     Ok(())
 }
 
-#[tactic(auto, using(crate::proofs::TextLemmas::class_texts))]
+#[tactic(auto, using(dl_text::proofs::TextLemmas::class_texts))]
 fn push_class(out: &mut String, n: u32, names: &Names) -> Result<(), AllocError>
     requires { n < length names.now }
     ensures { OnOk result (string_bytes out.new ≡ string_bytes out.old ++ class_text names.now n) }
@@ -57,7 +57,7 @@ pub(crate) fn property_of(role: Role) -> u32
     }
 }
 
-#[tactic(auto, using(crate::proofs::TextLemmas::below_names))]
+#[tactic(auto, using(dl_text::proofs::TextLemmas::below_names))]
 fn push_role(out: &mut String, role: Role, names: &Names) -> Result<(), AllocError>
     requires { AreBelow (length names.now) (role_names role) }
     ensures { OnOk result (string_bytes out.new ≡ string_bytes out.old ++ role_text names.now role) }
@@ -86,7 +86,7 @@ fn push_some(out: &mut String, role: Role, names: &Names) -> Result<(), AllocErr
     Ok(())
 }
 
-#[tactic(auto, using(crate::proofs::TextLemmas::below_names))]
+#[tactic(auto, using(dl_text::proofs::TextLemmas::below_names))]
 fn push_basic(out: &mut String, basic: Basic, names: &Names) -> Result<(), AllocError>
     requires { AreBelow (length names.now) (basic_names basic) }
     ensures { OnOk result (string_bytes out.new ≡
@@ -102,7 +102,7 @@ fn push_basic(out: &mut String, basic: Basic, names: &Names) -> Result<(), Alloc
     Ok(())
 }
 
-#[tactic(auto, using(crate::proofs::TextLemmas::below_names))]
+#[tactic(auto, using(dl_text::proofs::TextLemmas::below_names))]
 fn push_part(out: &mut String, part: Part, names: &Names) -> Result<(), AllocError>
     requires { AreBelow (length names.now) (part_names part) }
     ensures { OnOk result (string_bytes out.new ≡
@@ -243,7 +243,7 @@ fn keyword_of(stated: &Axiom) -> Keyword
     }
 }
 
-#[tactic(auto, using(crate::proofs::TextLemmas::below_names))]
+#[tactic(auto, using(dl_text::proofs::TextLemmas::below_names))]
 fn push_two_roles(out: &mut String, one: Role, two: Role, names: &Names) -> Result<(), AllocError>
     requires { AreBelow (length names.now) (role_names one ++ role_names two) }
     ensures { OnOk result (string_bytes out.new ≡
@@ -255,7 +255,7 @@ fn push_two_roles(out: &mut String, one: Role, two: Role, names: &Names) -> Resu
     Ok(())
 }
 
-#[tactic(auto, using(crate::proofs::TextLemmas::below_names))]
+#[tactic(auto, using(dl_text::proofs::TextLemmas::below_names))]
 fn push_role_and_parts(
     out: &mut String,
     role: Role,
@@ -272,7 +272,7 @@ fn push_role_and_parts(
     Ok(())
 }
 
-#[tactic(auto, using(crate::proofs::TextLemmas::below_names))]
+#[tactic(auto, using(dl_text::proofs::TextLemmas::below_names))]
 fn push_basic_and_parts(
     out: &mut String,
     basic: Basic,
@@ -290,7 +290,7 @@ fn push_basic_and_parts(
 }
 
 /// The operands of an axiom with one space between them.
-#[tactic(auto, using(crate::proofs::TextLemmas::below_names))]
+#[tactic(auto, using(dl_text::proofs::TextLemmas::below_names))]
 fn push_operands(out: &mut String, stated: &Axiom, names: &Names) -> Result<(), AllocError>
     requires { AreBelow (length names.now) (axiom_names stated.now) }
     ensures { OnOk result (string_bytes out.new ≡

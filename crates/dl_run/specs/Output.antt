@@ -4,7 +4,7 @@ use Rattle.std.specs.List.{flat_map}
 use Rattle.std.specs.Fmt.{decimal}
 use Rattle.dl_names.specs.NameList.{Text}
 use Rattle.dl_terms.specs.declared.axiom.Axiom.{Axiom}
-use Rattle.dl_owl.specs.AxiomText.{axiom_text}
+use Rattle.dl_text.specs.AxiomText.{axiom_text}
 
 -- the IRI of a name, in < and >
 abbrev pub iri_of : List Text → ℕ → List ℕ

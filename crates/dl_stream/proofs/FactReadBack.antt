@@ -17,9 +17,9 @@ use Rattle.dl_triples.specs.Spelling.{Spells, nothing, plain}
 use Rattle.dl_triples.specs.Terms.{IsIriref, iri, empty, IsTriple}
 use Rattle.dl_triples.specs.Meaning.{kind_of, meaning_of_kinds, meaning_of, names_of, facts_of, skips, all_named}
 use Rattle.dl_triples.specs.Reading.{GivesTriple, triple, none, line, IsValue}
-use Rattle.dl_owl.specs.AxiomText.{iri_text}
+use Rattle.dl_text.specs.NameText.{name_text}
 use Rattle.dl_stream.specs.ReadBack.{text_at, IsNamed, IsNamedClass, IsNamedFact}
-use Rattle.dl_stream.specs.StreamText.{fact_text}
+use Rattle.dl_text.specs.FactText.{fact_text}
 
 -- ---- IRIs
 
@@ -68,7 +68,7 @@ lines_then : (xs ys : List ℕ) → list_all is_line_byte xs ≡ true → list_a
 lines_then xs ys h g = list_all-append is_line_byte xs ys ∙ ap₂ (λ x y. x && y) h g
 
 module _ (held : List Text) where
-  iri_in_line : (n : ℕ) → IsIri (text_at held n) → list_all is_line_byte (iri_text held n) ≡ true
+  iri_in_line : (n : ℕ) → IsIri (text_at held n) → list_all is_line_byte (name_text held n) ≡ true
   iri_in_line n h = lines_then (60 ∷ text_at held n) (62 ∷ []) (iri_line (text_at held n) h.characters) refl
 
   -- ---- triples
@@ -76,13 +76,13 @@ module _ (held : List Text) where
   class_triple : (c a : ℕ) → IsIri (text_at held c) → IsIri (text_at held a)
       → IsTriple (fact_text held (Is c a)) (text_at held a) rdf_type (Some (text_at held c))
   class_triple c a c_iri a_iri = record {
-    second = 32 ∷ 60 ∷ rdf_type ++ (62 ∷ 32 ∷ iri_text held c ++ codes " .");
-    third = 32 ∷ iri_text held c ++ codes " .";
+    second = 32 ∷ 60 ∷ rdf_type ++ (62 ∷ 32 ∷ name_text held c ++ codes " .");
+    third = 32 ∷ name_text held c ++ codes " .";
     rest = [];
-    first_term = record { part = iri_text held a; is = iriref (text_at held a) a_iri; stands = refl };
+    first_term = record { part = name_text held a; is = iriref (text_at held a) a_iri; stands = refl };
     second_term = record { part = 60 ∷ rdf_type ++ 62 ∷ []; is = iriref rdf_type type_is_iri; stands = refl };
     third_term = record {
-      part = iri_text held c;
+      part = name_text held c;
       behind = codes " .";
       is = iri (iriref (text_at held c) c_iri);
       stands = refl;
@@ -94,13 +94,13 @@ module _ (held : List Text) where
   link_triple : (p a b : ℕ) → IsIri (text_at held p) → IsIri (text_at held a) → IsIri (text_at held b)
       → IsTriple (fact_text held (Link p a b)) (text_at held a) (text_at held p) (Some (text_at held b))
   link_triple p a b p_iri a_iri b_iri = record {
-    second = 32 ∷ iri_text held p ++ (32 ∷ iri_text held b ++ codes " .");
-    third = 32 ∷ iri_text held b ++ codes " .";
+    second = 32 ∷ name_text held p ++ (32 ∷ name_text held b ++ codes " .");
+    third = 32 ∷ name_text held b ++ codes " .";
     rest = [];
-    first_term = record { part = iri_text held a; is = iriref (text_at held a) a_iri; stands = refl };
-    second_term = record { part = iri_text held p; is = iriref (text_at held p) p_iri; stands = refl };
+    first_term = record { part = name_text held a; is = iriref (text_at held a) a_iri; stands = refl };
+    second_term = record { part = name_text held p; is = iriref (text_at held p) p_iri; stands = refl };
     third_term = record {
-      part = iri_text held b;
+      part = name_text held b;
       behind = codes " .";
       is = iri (iriref (text_at held b) b_iri);
       stands = refl;
@@ -183,12 +183,12 @@ module _ (held : List Text) where
 
     in_line : (f : Fact) → IsNamedFact held f → list_all is_line_byte (fact_text held f) ≡ true
     in_line (Is c a) h =
-        lines_then (iri_text held a) (32 ∷ 60 ∷ rdf_type ++ (62 ∷ 32 ∷ iri_text held c ++ codes " .")) (iri_in_line a h.1.is.iri)
-        (lines_then (iri_text held c) (codes " .") (iri_in_line c (class_iri (text_at held c) h.0.is)) refl)
+        lines_then (name_text held a) (32 ∷ 60 ∷ rdf_type ++ (62 ∷ 32 ∷ name_text held c ++ codes " .")) (iri_in_line a h.1.is.iri)
+        (lines_then (name_text held c) (codes " .") (iri_in_line c (class_iri (text_at held c) h.0.is)) refl)
     in_line (Link p a b) h =
-        lines_then (iri_text held a) (32 ∷ iri_text held p ++ (32 ∷ iri_text held b ++ codes " .")) (iri_in_line a h.1.is.iri)
-        (lines_then (iri_text held p) (32 ∷ iri_text held b ++ codes " .") (iri_in_line p h.0.is.iri)
-        (lines_then (iri_text held b) (codes " .") (iri_in_line b h.2.is.iri) refl))
+        lines_then (name_text held a) (32 ∷ name_text held p ++ (32 ∷ name_text held b ++ codes " .")) (iri_in_line a h.1.is.iri)
+        (lines_then (name_text held p) (32 ∷ name_text held b ++ codes " .") (iri_in_line p h.0.is.iri)
+        (lines_then (name_text held b) (codes " .") (iri_in_line b h.2.is.iri) refl))
 
     pub fact_is_read_back : (f : Fact) → IsNamedFact held f → IsValue (fact_text held f) held (f ∷ []) 0 held
     fact_is_read_back f h = record {

@@ -7,7 +7,7 @@ use Rattle.dl_terms.specs.declared.axiom.Fact.TheVariants as fact
 use Rattle.dl_terms.specs.Auxiliaries.{HasNoAuxiliary, PartHasNoAuxiliary}
 use Rattle.dl_terms.specs.Occurring.{axiom_names, fact_names}
 use Rattle.dl_terms.specs.Queries.{IsWellFormed}
-use Rattle.dl_owl.specs.AxiomText.{AreBelow}
+use Rattle.dl_text.specs.NameText.{AreBelow}
 use Rattle.dl_event.specs.Auxiliaries.{ItemHasNoAuxiliary}
 use Rattle.dl_stream.specs.Commands.{ItemBelow, CommandBelow}
 use Rattle.dl_stream.specs.Generator.{next_state, drawn, individual, role, class_below, role_below, class_filled, first_domain, generated_axioms, generated_edits, drawn_fact, behind_fact, drawn_facts, generated_query, generated_commands}

@@ -5,9 +5,6 @@ pub mod TextLemmas
 pub mod SaidLemmas
 pub mod OwlLemmas
 pub mod FitLemmas
-pub mod PrintLemmas
-pub mod ConstructLemmas
-pub mod BelowLemmas
 pub mod LineLemmas
 pub mod DrawLemmas
 pub mod GeneratedNameLemmas

@@ -19,7 +19,8 @@ use Rattle.dl_terms.specs.Renamed.{renamed_term, renamed_atom, renamed_query}
 use Rattle.dl_query.specs.Symbols.{iri, no_token, Front, front, run_len, run, behind, is_variable_byte, variable_of, iri_of, turnstile_of, front_of, Placed, AreTokens, last, more, symbols_of, is_blank}
 use Rattle.dl_query.specs.Grammar.{Met, IsQuery, query_of}
 use Rattle.dl_query.specs.Queries.{IsText, IsValue}
-use Rattle.dl_stream.specs.StreamText.{comma_joined, variable_text, atom_text, query_text}
+use Rattle.dl_text.specs.NameText.{comma_joined}
+use Rattle.dl_text.specs.QueryText.{variable_text, atom_text, query_text}
 use Rattle.dl_stream.proofs.QueryBack.{IsSound, IsIriAt, query_word, opening, turnstile, head_symbols, bodies_symbols, query_symbols, QueryIsBack, query_back}
 use Rattle.dl_stream.proofs.QueryTokens.{as_text, query_then}
 

@@ -14,9 +14,9 @@ use Rattle.dl_terms.specs.declared.query.Atom.TheVariants.{Is, Link}
 use Rattle.dl_terms.specs.Occurring.{term_names, atom_names}
 use Rattle.dl_terms.specs.Queries.{term_variables, atom_variables}
 use Rattle.dl_terms.proofs.MemberLemmas.{both_true}
-use Rattle.dl_owl.specs.AxiomText.{iri_text}
+use Rattle.dl_text.specs.NameText.{name_text, comma_joined}
 use Rattle.dl_stream.specs.ReadBack.{text_at}
-use Rattle.dl_stream.specs.StreamText.{comma_joined, variable_text, term_text, atom_text}
+use Rattle.dl_text.specs.QueryText.{variable_text, term_text, atom_text}
 use Rattle.dl_stream.proofs.QueryBack.{IsIriAt, term_symbol, atom_symbols, body_symbols, more_symbols, head_symbols, query_word, opening, closing, comma, turnstile, ending}
 use Rattle.dl_stream.proofs.VariableBack.{variable_name}
 use Rattle.dl_query.specs.Symbols.{Symbol, variable, iri, no_token, front, run_len, run, behind, is_variable_byte, is_blank, front_of, next_front, next_placed, Placed, is_last, AreTokens, last, more, symbols_of, variable_of, iri_of}
@@ -146,9 +146,9 @@ module _ (held : List Text) where
 
 module _ (held : List Text) (len : ℕ) where
   iri_then : (n : ℕ) (symbols : List Symbol) (rest : Text) → IsIriAt held n → Tokens len rest symbols
-      → Tokens len (iri_text held n ++ rest) (iri (text_at held n) ∷ symbols)
+      → Tokens len (name_text held n ++ rest) (iri (text_at held n) ∷ symbols)
   iri_then n symbols rest is others =
-      as_text (iri_text held n ++ rest) (60 ∷ text_at held n ++ 62 ∷ rest) (append_assoc (60 ∷ text_at held n) (62 ∷ []) rest)
+      as_text (name_text held n ++ rest) (60 ∷ text_at held n ++ 62 ∷ rest) (append_assoc (60 ∷ text_at held n) (62 ∷ []) rest)
       (token_then (60 ∷ text_at held n ++ 62 ∷ rest) (iri (text_at held n))
       (iri_front (text_at held n) rest (all_bytes (text_at held n) is.characters)
       (is_utf8-from_IsUtf8 (text_at held n) is.utf8)) refl others)
@@ -190,9 +190,9 @@ module _ (held : List Text) (len : ℕ) where
       let closed = token_then (41 ∷ rest) closing refl refl others in
       let term = term_then t 41 (closing ∷ symbols) rest few iris.1 refl closed in
       let opened = token_then (40 ∷ (term_text held t ++ 41 ∷ rest)) opening refl refl term in
-      as_text (atom_text held (Is c t) ++ rest) (iri_text held c ++ (40 ∷ (term_text held t ++ 41 ∷ rest)))
-      (append_assoc (iri_text held c) (40 ∷ term_text held t ++ 41 ∷ []) rest
-      ∙ ap (λ l. iri_text held c ++ 40 ∷ l) (append_assoc (term_text held t) (41 ∷ []) rest))
+      as_text (atom_text held (Is c t) ++ rest) (name_text held c ++ (40 ∷ (term_text held t ++ 41 ∷ rest)))
+      (append_assoc (name_text held c) (40 ∷ term_text held t ++ 41 ∷ []) rest
+      ∙ ap (λ l. name_text held c ++ 40 ∷ l) (append_assoc (term_text held t) (41 ∷ []) rest))
       (iri_then c (opening ∷ term_symbol held t ∷ closing ∷ symbols) (40 ∷ (term_text held t ++ 41 ∷ rest)) iris.0 opened)
   atom_then (Link p t u) symbols rest few iris others =
       let fews = few_parts (term_variables t) (term_variables u) few in
@@ -206,9 +206,9 @@ module _ (held : List Text) (len : ℕ) where
       let parted = token_then (44 ∷ 32 ∷ text_u) comma refl refl (as_space text_u symbols_u second) in
       let first = term_then t 44 (comma ∷ symbols_u) (32 ∷ text_u) fews.0 parts.0 refl parted in
       let opened = token_then (40 ∷ text_t) opening refl refl first in
-      as_text (atom_text held (Link p t u) ++ rest) (iri_text held p ++ 40 ∷ text_t)
-      (append_assoc (iri_text held p) (40 ∷ term_text held t ++ (44 ∷ 32 ∷ term_text held u ++ 41 ∷ [])) rest
-      ∙ ap (λ l. iri_text held p ++ 40 ∷ l)
+      as_text (atom_text held (Link p t u) ++ rest) (name_text held p ++ 40 ∷ text_t)
+      (append_assoc (name_text held p) (40 ∷ term_text held t ++ (44 ∷ 32 ∷ term_text held u ++ 41 ∷ [])) rest
+      ∙ ap (λ l. name_text held p ++ 40 ∷ l)
       (append_assoc (term_text held t) (44 ∷ 32 ∷ term_text held u ++ 41 ∷ []) rest
       ∙ ap (λ l. term_text held t ++ 44 ∷ 32 ∷ l) (append_assoc (term_text held u) (41 ∷ []) rest)))
       (iri_then p (opening ∷ term_symbol held t ∷ comma ∷ symbols_u) (40 ∷ text_t) iris.0 opened)

@@ -4,7 +4,7 @@ use Rattle.std.specs.List.{flat_map}
 use Rattle.std.proofs.lemmas.List.{take_all}
 use Rattle.std.proofs.lemmas.List.Folds.{flat_map-map}
 use Rattle.dl_names.specs.NameList.{Text}
-use Rattle.dl_stream.specs.StreamText.{comma_joined}
+use Rattle.dl_text.specs.NameText.{comma_joined}
 
 take_rest : {X : Type 0} (x : X) (xs : List X) → take (length (x ∷ xs) - 1) xs ≡ xs
 take_rest x xs = ap (λ n. take n xs) (omega arith) ∙ take_all (length xs) xs (omega arith)

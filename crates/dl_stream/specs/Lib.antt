@@ -4,7 +4,6 @@ pub mod Edits
 pub mod Reading
 pub mod Commands
 pub mod Parts
-pub mod Printing
 pub mod Lines
 pub mod Outcomes
 pub mod Pieces

@@ -1,13 +1,9 @@
--- The lines in which answers and rows are printed. Their form is this project's own.
+-- The lines in which rows are printed. Their form is this project's own.
 use Rattle.std.specs.Prelude.{ℕ, List, [], ◌∷◌, ◌++◌, ◌==◌, map, codes, if◌then◌else◌}
-use Rattle.std.specs.declared.option.Option.{Option}
-use Rattle.std.specs.declared.option.Option.TheVariants.{Some, None}
 use Rattle.std.specs.List.{flat_map, enumerate_from}
 use Rattle.std.specs.Fmt.{decimal}
 use Rattle.dl_names.specs.NameList.{Text}
-use Rattle.dl_terms.specs.Occurring.{axiom_names}
-use Rattle.dl_terms.specs.declared.axiom.Axiom.{Axiom}
-use Rattle.dl_owl.specs.AxiomText.{iri_text, axiom_text}
+use Rattle.dl_text.specs.NameText.{name_text}
 use Rattle.dl_row.specs.declared.row.Kind.{Kind}
 use Rattle.dl_row.specs.declared.row.Kind.TheVariants as kind
 use Rattle.dl_row.specs.declared.row.Row.{Row}
@@ -26,33 +22,12 @@ abbrev pub words_line : List Text → Text
 words_line [] = line []
 words_line (word ∷ words) = line (word ∷ spaced words)
 
--- ---- answers
-
--- texts with a comma and a space between them
-abbrev pub listed : List Text → Text
-listed [] = []
-listed (text ∷ texts) = text ++ flat_map (λ next. codes ", " ++ next) texts
-
--- the line of a tuple of names
-abbrev pub tuple_line : List Text → List ℕ → Text
-tuple_line names tuple = line (codes "(" ∷ listed (map (iri_text names) tuple) ∷ codes ")" ∷ [])
-
--- a broken axiom; None stands for owl:Nothing
-abbrev pub broken_text : List Text → Option Axiom → Text
-broken_text names (Some broken) = axiom_text names broken
-broken_text names None = codes "owl:Nothing"
-
--- the names in it
-abbrev pub broken_names : Option Axiom → List ℕ
-broken_names (Some broken) = axiom_names broken
-broken_names None = []
-
 -- ---- rows
 
 -- predicates of one kind, each on a line behind this word and its number; numbers go from 1
 abbrev pub predicate_lines : List Text → Text → List ℕ → Text
 predicate_lines names word predicates =
-    flat_map (λ numbered. words_line (word ∷ decimal numbered.0 ∷ iri_text names numbered.1 ∷ []))
+    flat_map (λ numbered. words_line (word ∷ decimal numbered.0 ∷ name_text names numbered.1 ∷ []))
     (enumerate_from 1 predicates)
 
 -- that a row carries the current epoch, or which other one
@@ -74,7 +49,7 @@ individuals row = individuals_by row.kind row.s row.o
 
 -- what a row says: its kind, the number of its predicate, and its individuals
 abbrev pub fact_words : List Text → Row → List Text
-fact_words names row = kind_word row.kind ∷ decimal row.number ∷ map (iri_text names) (individuals row)
+fact_words names row = kind_word row.kind ∷ decimal row.number ∷ map (name_text names) (individuals row)
 
 -- the line of a row, where this is the current epoch
 abbrev pub row_line : List Text → (current : ℕ) → Row → Text

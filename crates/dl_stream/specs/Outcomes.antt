@@ -1,5 +1,5 @@
 -- The lines of what becomes of a command. Their form is this project's own.
-use Rattle.std.specs.Prelude.{ℕ, ◌≡◌, List, [], ◌∷◌, ◌++◌, length, map, codes, IfSome}
+use Rattle.std.specs.Prelude.{ℕ, ◌≡◌, List, [], ◌∷◌, ◌++◌, map, codes, IfSome}
 use Rattle.std.specs.declared.option.Option.{Option}
 use Rattle.std.specs.declared.option.Option.TheVariants.{Some, None}
 use Rattle.std.specs.List.{flat_map}
@@ -18,7 +18,8 @@ use Rattle.dl_event.specs.declared.reply.Reply.{Reply}
 use Rattle.dl_event.specs.declared.reply.Reply.TheVariants.{Committed, Pinned, Unpinned, Migrated, Swept, Reclaimed, Looked as Look, Refused}
 use Rattle.dl_stream.specs.declared.outcome.Outcome.{Outcome}
 use Rattle.dl_stream.specs.declared.outcome.Outcome.TheVariants as outcome
-use Rattle.dl_stream.specs.Lines.{words_line, tuple_line, broken_text, broken_names, predicate_lines, row_line, individuals}
+use Rattle.dl_stream.specs.Lines.{words_line, predicate_lines, row_line, individuals}
+use Rattle.dl_text.specs.AnswerText.{answers_text, inconsistent_text, broken_names}
 
 -- ---- events
 
@@ -75,18 +76,16 @@ reply_names reply = []
 
 -- ---- queries
 
--- the line of a query that was asked at the place of a pin, in these words
-abbrev pub asked_line : (place version : ℕ) → List Text → Text
-asked_line place version words =
-    words_line (codes "ask place" ∷ decimal place ∷ codes "version" ∷ decimal version ∷ words)
+-- of a query that was asked at the place of a pin, this
+abbrev pub asked_text : (place version : ℕ) → Text → Text
+asked_text place version text =
+    codes "ask place " ++ (decimal place ++ (codes " version " ++ (decimal version ++ 32 ∷ text)))
 
 -- what a query is answered
 abbrev pub answer_text : List Text → (place : ℕ) → Answer → Text
-answer_text names place (answer.Found version tuples) =
-    asked_line place version (codes "answers" ∷ decimal (length tuples.tuples) ∷ [])
-    ++ flat_map (tuple_line names) tuples.tuples
+answer_text names place (answer.Found version tuples) = asked_text place version (answers_text names tuples.tuples)
 answer_text names place (answer.Inconsistent version broken) =
-    asked_line place version (codes "inconsistent" ∷ broken_text names broken ∷ [])
+    asked_text place version (inconsistent_text names broken)
 
 -- the names in it
 abbrev pub answer_names : Answer → List ℕ
@@ -97,7 +96,7 @@ answer_names (answer.Inconsistent version broken) = broken_names broken
 abbrev pub fault_text : (place limit : ℕ) → AskFault → Text
 fault_text place limit ask.NoPin = words_line (codes "ask no pin" ∷ [])
 fault_text place limit (ask.TooMany version) =
-    asked_line place version (codes "more than" ∷ decimal limit ∷ codes "answers" ∷ [])
+    asked_text place version (words_line (codes "more than" ∷ decimal limit ∷ codes "answers" ∷ []))
 fault_text place limit ask.NoMemory = words_line (codes "ask no memory" ∷ [])
 
 -- ---- commands

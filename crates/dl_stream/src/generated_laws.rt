@@ -3,7 +3,7 @@ ghost use Rattle.std.specs.Prelude.{ℕ, ◌+◌, ◌<◌, ◌≡◌, All, lengt
 ghost use Rattle.dl_terms.specs.Auxiliaries.{HasNoAuxiliary};
 ghost use Rattle.dl_terms.specs.Occurring.{axiom_names, fact_names};
 ghost use Rattle.dl_terms.specs.Queries.{IsWellFormed};
-ghost use Rattle.dl_owl.specs.AxiomText.{AreBelow};
+ghost use Rattle.dl_text.specs.NameText.{AreBelow};
 ghost use Rattle.dl_event.specs.Auxiliaries.{ItemHasNoAuxiliary};
 ghost use Rattle.dl_stream.specs.Commands.{CommandBelow};
 ghost use Rattle.dl_stream.specs.Generator.{name_texts, generated_axioms, drawn_facts, generated_commands, generated_edits, generated_query};

@@ -3,7 +3,6 @@
 
 mod answers;
 mod axiom_ranks;
-mod axiom_text;
 mod cut;
 mod draws;
 mod edits;
@@ -16,9 +15,7 @@ mod generated_names;
 mod generated_stream;
 pub mod laws;
 mod number;
-mod operand;
 mod outcome;
-mod pieces;
 mod place;
 mod query_text;
 mod ranked;
@@ -30,11 +27,11 @@ mod streams;
 mod text_laws;
 pub mod worked_examples;
 
+pub use dl_text::print_name;
 pub use fault::{Kind, StreamFault};
 pub use generated::{Generated, generate};
 pub use generated_laws::generated_input_is_fit;
 pub use outcome::{Outcome, print_outcome};
-pub use pieces::print_name;
 pub use reading::read_streams;
 pub use stream_text::print_streams;
 pub use streams::{Command, Streams};

@@ -1,16 +1,16 @@
 // What becomes of a command, printed to a sink. It takes no memory.
 ghost use Rattle.std.specs.Prelude.{◌≡◌, length, IsSome};
 ghost use Rattle.std.specs.Option.{option_copied};
-ghost use Rattle.dl_owl.specs.AxiomText.{AreBelow};
+ghost use Rattle.dl_text.specs.NameText.{AreBelow};
 ghost use Rattle.dl_stream.specs.Outcomes.{outcome_text, outcome_names, place_of, IsAtItsPin};
-ghost use Rattle.dl_stream.specs.Printing.{Prints};
+ghost use Rattle.dl_io.specs.Printing.{Prints};
 
 use crate::answers::{put_answer, put_too_many};
-use crate::pieces::{Piece, put_all};
 use crate::reply::put_reply;
 use dl_event::{Answer, AskFault, Placed};
 use dl_io::{Failed, Sink};
 use dl_names::Names;
+use dl_text::{Piece, print_pieces};
 
 /// What becomes of a command of a stream.
 #[derive(Drop)]
@@ -39,7 +39,7 @@ pub fn print_outcome<S: Sink>(
 ) -> Result<(), Failed>
     requires at_its_pin { IsAtItsPin (option_copied pinned) outcome.now }
     requires named { AreBelow (length names.now) (outcome_names outcome.now) }
-    ensures { Prints result (S.got sink.old) (S.got sink.new) (S.faults sink.old) (S.faults sink.new)
+    ensures { Prints S.got S.faults S.lent result sink.old sink.new
         (outcome_text names.now (option_copied pinned.entry) limit outcome.now) }
 {
     match outcome {
@@ -49,13 +49,13 @@ pub fn print_outcome<S: Sink>(
             put_too_many(sink, place_of(pinned), *version, limit, names)
         }
         Outcome::AskRefused(AskFault::NoPin) => {
-            put_all(sink, &[Piece::Text("ask no pin\n")], names)
+            print_pieces(sink, &[Piece::Text("ask no pin\n")], names)
         }
         Outcome::AskRefused(AskFault::NoMemory) => {
-            put_all(sink, &[Piece::Text("ask no memory\n")], names)
+            print_pieces(sink, &[Piece::Text("ask no memory\n")], names)
         }
-        Outcome::Spent => put_all(sink, &[Piece::Text("spent\n")], names),
-        Outcome::NoMemory => put_all(sink, &[Piece::Text("no memory\n")], names),
+        Outcome::Spent => print_pieces(sink, &[Piece::Text("spent\n")], names),
+        Outcome::NoMemory => print_pieces(sink, &[Piece::Text("no memory\n")], names),
     }
 }
 

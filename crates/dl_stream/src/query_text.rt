@@ -3,8 +3,8 @@ ghost use Rattle.std.specs.Prelude.{◌≡◌, ◌++◌, ◌∷◌, [], ◌<◌,
 ghost use Rattle.std.specs.List.{flat_map};
 ghost use Rattle.std.specs.Fmt.{decimal};
 ghost use Rattle.dl_terms.specs.Occurring.{term_names, atom_names, query_names};
-ghost use Rattle.dl_owl.specs.AxiomText.{AreBelow, iri_text};
-ghost use Rattle.dl_stream.specs.StreamText.{comma_joined, variable_text, term_text, atom_text, query_text};
+ghost use Rattle.dl_text.specs.NameText.{AreBelow, name_text, comma_joined};
+ghost use Rattle.dl_text.specs.QueryText.{variable_text, term_text, atom_text, query_text};
 
 use dl_names::Names;
 use dl_terms::{Atom, Query, Term};
@@ -14,7 +14,7 @@ use std::alloc::AllocError;
 /// The name of a number in full, in `<` and `>`.
 pub(crate) fn push_iri(out: &mut String, n: u32, names: &Names) -> Result<(), AllocError>
     requires { n < length names.now }
-    ensures { OnOk result (string_bytes out.new ≡ string_bytes out.old ++ iri_text names.now n) }
+    ensures { OnOk result (string_bytes out.new ≡ string_bytes out.old ++ name_text names.now n) }
 {
     out.push_str("<")?;
     out.push_str(names.text(n))?;
@@ -39,7 +39,7 @@ fn push_variable(out: &mut String, v: u8) -> Result<(), AllocError>
 }
 
 /// A term of an atom.
-#[tactic(auto, using(dl_owl::proofs::TextLemmas::below_names))]
+#[tactic(auto, using(dl_text::proofs::TextLemmas::below_names))]
 fn push_term(out: &mut String, term: Term, names: &Names) -> Result<(), AllocError>
     requires { AreBelow (length names.now) (term_names term) }
     ensures { OnOk result (string_bytes out.new ≡ string_bytes out.old ++ term_text names.now term) }
@@ -51,7 +51,7 @@ fn push_term(out: &mut String, term: Term, names: &Names) -> Result<(), AllocErr
 }
 
 /// An atom.
-#[tactic(auto, using(dl_owl::proofs::TextLemmas::below_names))]
+#[tactic(auto, using(dl_text::proofs::TextLemmas::below_names))]
 fn push_atom(out: &mut String, atom: Atom, names: &Names) -> Result<(), AllocError>
     requires { AreBelow (length names.now) (atom_names atom) }
     ensures { OnOk result (string_bytes out.new ≡ string_bytes out.old ++ atom_text names.now atom) }

@@ -2,17 +2,17 @@
 ghost use Rattle.std.specs.Prelude.{◌++◌, ◌∷◌, [], length, map, codes};
 ghost use Rattle.std.specs.List.{flat_map};
 ghost use Rattle.std.specs.Fmt.{decimal};
-ghost use Rattle.dl_owl.specs.AxiomText.{AreBelow};
+ghost use Rattle.dl_text.specs.NameText.{AreBelow};
 ghost use Rattle.dl_stream.specs.Lines.{predicate_lines, row_line, individuals};
 ghost use Rattle.dl_stream.specs.Outcomes.{placed_line, refusal_words, dropped_words, count_words, shown_text, reply_text, reply_names};
 ghost use Rattle.dl_stream.specs.Pieces.{row_start, row_rest};
-ghost use Rattle.dl_stream.specs.Printing.{Prints};
+ghost use Rattle.dl_io.specs.Printing.{Prints};
 
-use crate::pieces::{Piece, put_all};
 use dl_event::{Looked, Refusal, Reply};
 use dl_io::{Failed, Sink};
 use dl_names::Names;
 use dl_row::{Kind, Row};
+use dl_text::{Piece, print_pieces};
 
 /// Prints what a stream was told at a place.
 pub(crate) fn put_reply<S: Sink>(
@@ -22,7 +22,7 @@ pub(crate) fn put_reply<S: Sink>(
     names: &Names,
 ) -> Result<(), Failed>
     requires { AreBelow (length names.now) (reply_names reply.now) }
-    ensures { Prints result (S.got sink.old) (S.got sink.new) (S.faults sink.old) (S.faults sink.new)
+    ensures { Prints S.got S.faults S.lent result sink.old sink.new
         (reply_text names.now place reply.now) }
 {
     match reply {
@@ -58,7 +58,7 @@ fn put_refusal<S: Sink>(
     refusal: Refusal,
     names: &Names,
 ) -> Result<(), Failed>
-    ensures { Prints result (S.got sink.old) (S.got sink.new) (S.faults sink.old) (S.faults sink.new)
+    ensures { Prints S.got S.faults S.lent result sink.old sink.new
         (placed_line place (refusal_words refusal)) }
 {
     match refusal {
@@ -97,10 +97,10 @@ fn put_plain<S: Sink>(
     words: &'static str,
     names: &Names,
 ) -> Result<(), Failed>
-    ensures { Prints result (S.got sink.old) (S.got sink.new) (S.faults sink.old) (S.faults sink.new)
+    ensures { Prints S.got S.faults S.lent result sink.old sink.new
         (placed_line place (words.now ∷ [])) }
 {
-    put_all(
+    print_pieces(
         sink,
         &[
             Piece::Text("place "),
@@ -121,10 +121,10 @@ fn put_one<S: Sink>(
     number: u64,
     names: &Names,
 ) -> Result<(), Failed>
-    ensures { Prints result (S.got sink.old) (S.got sink.new) (S.faults sink.old) (S.faults sink.new)
+    ensures { Prints S.got S.faults S.lent result sink.old sink.new
         (placed_line place (words.now ∷ decimal number ∷ [])) }
 {
-    put_all(
+    print_pieces(
         sink,
         &[
             Piece::Text("place "),
@@ -149,10 +149,10 @@ fn put_two<S: Sink>(
     next: u64,
     names: &Names,
 ) -> Result<(), Failed>
-    ensures { Prints result (S.got sink.old) (S.got sink.new) (S.faults sink.old) (S.faults sink.new)
+    ensures { Prints S.got S.faults S.lent result sink.old sink.new
         (placed_line place (words.now ∷ decimal number ∷ next_words.now ∷ decimal next ∷ [])) }
 {
-    put_all(
+    print_pieces(
         sink,
         &[
             Piece::Text("place "),
@@ -178,10 +178,10 @@ fn put_reclaimed<S: Sink>(
     ids: &[u32],
     names: &Names,
 ) -> Result<(), Failed>
-    ensures { Prints result (S.got sink.old) (S.got sink.new) (S.faults sink.old) (S.faults sink.new)
+    ensures { Prints S.got S.faults S.lent result sink.old sink.new
         (placed_line place (codes "reclaim" ∷ dropped_words ids.now)) }
 {
-    put_all(
+    print_pieces(
         sink,
         &[
             Piece::Text("place "),
@@ -191,27 +191,27 @@ fn put_reclaimed<S: Sink>(
         names,
     )?;
     put_dropped(sink, ids, names)?;
-    put_all(sink, &[Piece::Text("\n")], names)
+    print_pieces(sink, &[Piece::Text("\n")], names)
 }
 
 /// Prints the ids of epochs that were dropped, each behind a space.
 fn put_dropped<S: Sink>(sink: &mut S, ids: &[u32], names: &Names) -> Result<(), Failed>
-    ensures { Prints result (S.got sink.old) (S.got sink.new) (S.faults sink.old) (S.faults sink.new)
+    ensures { Prints S.got S.faults S.lent result sink.old sink.new
         (flat_map (λ word. 32 ∷ word) (dropped_words ids.now)) }
 {
     if ids.is_empty() {
-        return put_all(sink, &[Piece::Text(" none")], names);
+        return print_pieces(sink, &[Piece::Text(" none")], names);
     }
     put_ids(sink, ids, names)
 }
 
 /// Prints ids, each behind a space.
 fn put_ids<S: Sink>(sink: &mut S, ids: &[u32], names: &Names) -> Result<(), Failed>
-    ensures { Prints result (S.got sink.old) (S.got sink.new) (S.faults sink.old) (S.faults sink.new)
+    ensures { Prints S.got S.faults S.lent result sink.old sink.new
         (flat_map (λ word. 32 ∷ word) (map decimal ids.now)) }
 {
     for id in ids {
-        put_all(sink, &[Piece::Text(" "), Piece::Number(*id as u64)], names)?;
+        print_pieces(sink, &[Piece::Text(" "), Piece::Number(*id as u64)], names)?;
     }
     Ok(())
 }
@@ -219,7 +219,7 @@ fn put_ids<S: Sink>(sink: &mut S, ids: &[u32], names: &Names) -> Result<(), Fail
 /// Prints the lines of a look.
 fn put_looked<S: Sink>(sink: &mut S, place: u64, look: &Looked, names: &Names) -> Result<(), Failed>
     requires { AreBelow (length names.now) (look.now.classes ++ (look.now.roles ++ flat_map individuals look.now.rows)) }
-    ensures { Prints result (S.got sink.old) (S.got sink.new) (S.faults sink.old) (S.faults sink.new)
+    ensures { Prints S.got S.faults S.lent result sink.old sink.new
         (placed_line place (count_words look.now) ++ shown_text names.now look.now) }
 {
     put_counts(sink, place, look, names)?;
@@ -230,10 +230,10 @@ fn put_looked<S: Sink>(sink: &mut S, place: u64, look: &Looked, names: &Names) -
 
 /// Prints the counts of a look.
 fn put_counts<S: Sink>(sink: &mut S, place: u64, look: &Looked, names: &Names) -> Result<(), Failed>
-    ensures { Prints result (S.got sink.old) (S.got sink.new) (S.faults sink.old) (S.faults sink.new)
+    ensures { Prints S.got S.faults S.lent result sink.old sink.new
         (placed_line place (count_words look.now)) }
 {
-    put_all(
+    print_pieces(
         sink,
         &[
             Piece::Text("place "),
@@ -264,11 +264,11 @@ fn put_predicates<S: Sink>(
     names: &Names,
 ) -> Result<(), Failed>
     requires { AreBelow (length names.now) predicates.now }
-    ensures { Prints result (S.got sink.old) (S.got sink.new) (S.faults sink.old) (S.faults sink.new)
+    ensures { Prints S.got S.faults S.lent result sink.old sink.new
         (predicate_lines names.now word.now predicates.now) }
 {
     for (i, predicate) in predicates.iter().enumerate() {
-        put_all(
+        print_pieces(
             sink,
             &[
                 Piece::Text(word),
@@ -287,7 +287,7 @@ fn put_predicates<S: Sink>(
 /// Prints a line for each row, where this is the current epoch.
 fn put_rows<S: Sink>(sink: &mut S, current: u32, rows: &[Row], names: &Names) -> Result<(), Failed>
     requires { AreBelow (length names.now) (flat_map individuals rows.now) }
-    ensures { Prints result (S.got sink.old) (S.got sink.new) (S.faults sink.old) (S.faults sink.new)
+    ensures { Prints S.got S.faults S.lent result sink.old sink.new
         (flat_map (row_line names.now current) rows.now) }
 {
     for row in rows {
@@ -299,7 +299,7 @@ fn put_rows<S: Sink>(sink: &mut S, current: u32, rows: &[Row], names: &Names) ->
 /// Prints the line of a row.
 fn put_row<S: Sink>(sink: &mut S, current: u32, row: &Row, names: &Names) -> Result<(), Failed>
     requires { AreBelow (length names.now) (individuals row.now) }
-    ensures { Prints result (S.got sink.old) (S.got sink.new) (S.faults sink.old) (S.faults sink.new)
+    ensures { Prints S.got S.faults S.lent result sink.old sink.new
         (row_line names.now current row.now) }
 {
     put_epoch(sink, current, row.epoch, names)?;
@@ -308,13 +308,13 @@ fn put_row<S: Sink>(sink: &mut S, current: u32, row: &Row, names: &Names) -> Res
 
 /// Prints what a row carries: the current epoch, or which other one.
 fn put_epoch<S: Sink>(sink: &mut S, current: u32, carried: u32, names: &Names) -> Result<(), Failed>
-    ensures { Prints result (S.got sink.old) (S.got sink.new) (S.faults sink.old) (S.faults sink.new)
+    ensures { Prints S.got S.faults S.lent result sink.old sink.new
         (row_start current carried) }
 {
     if carried == current {
-        return put_all(sink, &[Piece::Text("row")], names);
+        return print_pieces(sink, &[Piece::Text("row")], names);
     }
-    put_all(
+    print_pieces(
         sink,
         &[Piece::Text("old "), Piece::Number(carried as u64)],
         names,
@@ -324,12 +324,12 @@ fn put_epoch<S: Sink>(sink: &mut S, current: u32, carried: u32, names: &Names) -
 /// Prints what a row says, and ends its line.
 fn put_fact<S: Sink>(sink: &mut S, row: &Row, names: &Names) -> Result<(), Failed>
     requires { AreBelow (length names.now) (individuals row.now) }
-    ensures { Prints result (S.got sink.old) (S.got sink.new) (S.faults sink.old) (S.faults sink.new)
+    ensures { Prints S.got S.faults S.lent result sink.old sink.new
         (row_rest names.now row.now) }
 {
     let number = Piece::Number(row.number as u64);
     match row.kind {
-        Kind::Class => put_all(
+        Kind::Class => print_pieces(
             sink,
             &[
                 Piece::Text(" class "),
@@ -340,7 +340,7 @@ fn put_fact<S: Sink>(sink: &mut S, row: &Row, names: &Names) -> Result<(), Faile
             ],
             names,
         ),
-        Kind::Role => put_all(
+        Kind::Role => print_pieces(
             sink,
             &[
                 Piece::Text(" role "),

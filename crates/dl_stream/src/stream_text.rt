@@ -3,9 +3,11 @@ ghost use Rattle.std.specs.Prelude.{◌≡◌, ◌++◌, ◌∷◌, [], ◌<◌,
 ghost use Rattle.std.specs.List.{flat_map};
 ghost use Rattle.std.specs.Fmt.{decimal};
 ghost use Rattle.dl_terms.specs.Occurring.{fact_names, query_names};
-ghost use Rattle.dl_owl.specs.AxiomText.{AreBelow, iri_text};
+ghost use Rattle.dl_text.specs.NameText.{AreBelow, name_text};
 ghost use Rattle.dl_stream.specs.Commands.{ItemBelow, EventBelow, CommandBelow};
-ghost use Rattle.dl_stream.specs.StreamText.{line_of, rows_text, query_text, fact_text, item_text, edit_text, event_text, command_text, stream_text, streams_text};
+ghost use Rattle.dl_stream.specs.StreamText.{line_of, rows_text, item_text, edit_text, event_text, command_text, stream_text, streams_text};
+ghost use Rattle.dl_text.specs.QueryText.{query_text};
+ghost use Rattle.dl_text.specs.FactText.{fact_text};
 
 use crate::query_text::{push_iri, push_number, push_query};
 use crate::{Command, Streams};
@@ -16,7 +18,7 @@ use dl_terms::{Fact, List, NoMemory, Query};
 use std::alloc::{AllocError, Global};
 
 /// A fact as a triple.
-#[tactic(auto, using(dl_owl::proofs::TextLemmas::below_names))]
+#[tactic(auto, using(dl_text::proofs::TextLemmas::below_names))]
 fn push_fact(out: &mut String, fact: Fact, names: &Names) -> Result<(), AllocError>
     requires { AreBelow (length names.now) (fact_names fact) }
     ensures { OnOk result (string_bytes out.new ≡ string_bytes out.old ++ fact_text names.now fact) }
@@ -43,7 +45,7 @@ fn push_fact(out: &mut String, fact: Fact, names: &Names) -> Result<(), AllocErr
 fn push_declared(out: &mut String, opening: &str, n: u32, names: &Names) -> Result<(), AllocError>
     requires { n < length names.now }
     ensures { OnOk result (string_bytes out.new ≡
-        string_bytes out.old ++ (opening.now ++ (iri_text names.now n ++ codes "))"))) }
+        string_bytes out.old ++ (opening.now ++ (name_text names.now n ++ codes "))"))) }
 {
     out.push_str(opening)?;
     push_iri(out, n, names)?;

@@ -8,7 +8,8 @@ ghost use Rattle.dl_terms.specs.declared.query.Query.{Query};
 ghost use Rattle.dl_triples.specs.Reading as triples;
 ghost use Rattle.dl_query.specs.Queries as queries;
 ghost use Rattle.dl_stream.specs.ReadBack.{IsNamedFact};
-ghost use Rattle.dl_stream.specs.StreamText.{fact_text, query_text};
+ghost use Rattle.dl_text.specs.FactText.{fact_text};
+ghost use Rattle.dl_text.specs.QueryText.{query_text};
 
 /// A law: the text of a query that was read is read as this query, and names none that isn't there. `number` tells
 /// where each of its names stands in the list of names that it is printed by, which may be another one than it was read

@@ -1,7 +1,7 @@
 // The lines of what becomes of commands.
 ghost use Rattle.std.specs.Prelude.{◌≡◌, ℕ, length, IfOk, IfSome};
 ghost use Rattle.std.specs.Option.{option_copied};
-ghost use Rattle.dl_owl.specs.AxiomText.{AreBelow};
+ghost use Rattle.dl_text.specs.NameText.{AreBelow};
 ghost use Rattle.dl_stream.specs.Outcomes.{outcome_names, reply_names, IsAtItsPin};
 
 use dl_event::{Answer, AskFault, Looked, Placed, Refusal, Reply};

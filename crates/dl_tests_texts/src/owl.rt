@@ -1,6 +1,6 @@
 ghost use Rattle.std.specs.Prelude.{◌≡◌, length};
 ghost use Rattle.dl_terms.specs.Occurring.{axiom_names};
-ghost use Rattle.dl_owl.specs.AxiomText.{AreBelow};
+ghost use Rattle.dl_text.specs.NameText.{AreBelow};
 
 use dl_lex::Keyword;
 use dl_names::{NameSet, Names};

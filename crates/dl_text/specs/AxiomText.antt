@@ -1,5 +1,5 @@
 -- The text of an axiom, in the functional-style syntax. That it is this one text is this project's own.
-use Rattle.std.specs.Prelude.{ℕ, ◌<◌, All, List, [], ◌∷◌, ◌++◌, map, codes, slice_get, unwrap_or, if◌then◌else◌}
+use Rattle.std.specs.Prelude.{ℕ, List, [], ◌∷◌, ◌++◌, map, codes, slice_get, unwrap_or, if◌then◌else◌}
 use Rattle.std.specs.List.{flat_map}
 use Rattle.std.specs.Str.{bytes_eq}
 use Rattle.dl_lex.specs.declared.keyword.Keyword.{Keyword}
@@ -7,6 +7,7 @@ use Rattle.dl_lex.specs.declared.keyword.Keyword.TheVariants as keyword
 use Rattle.dl_lex.specs.Keywords.{keyword_text}
 use Rattle.dl_names.specs.NameList.{Text}
 use Rattle.dl_names.specs.Iris.{owl_nothing}
+use Rattle.dl_terms.specs.Broken.{role_name}
 use Rattle.dl_terms.specs.declared.role.Role.{Role}
 use Rattle.dl_terms.specs.declared.role.Basic.{Basic}
 use Rattle.dl_terms.specs.declared.role.Basic.TheVariants as basic
@@ -14,7 +15,11 @@ use Rattle.dl_terms.specs.declared.axiom.Part.{Part}
 use Rattle.dl_terms.specs.declared.axiom.Part.TheVariants as part
 use Rattle.dl_terms.specs.declared.axiom.Axiom.{Axiom}
 use Rattle.dl_terms.specs.declared.axiom.Axiom.TheVariants.{SubClass, EquivalentClasses, DisjointClasses, SubRole, EquivalentRoles, DisjointRoles, InverseRoles, Domain, Range, Symmetric, Asymmetric, Irreflexive}
-use Rattle.dl_owl.specs.Items.{property_of}
+use Rattle.dl_text.specs.NameText.{name_text}
+
+-- the object property of a role, which is no auxiliary role here
+abbrev pub property_of : Role → ℕ
+property_of r = role_name r.base
 
 abbrev pub axiom_keyword : Axiom → Keyword
 axiom_keyword (SubClass b ps) = keyword.SubClassOf
@@ -40,17 +45,14 @@ abbrev pub construct_text : Keyword → List Text → Text
 construct_text k operands = keyword_text k ++ (40 ∷ joined operands ++ 41 ∷ [])
 
 module _ (names : List Text) where
-  -- the IRI of a name in full
-  abbrev pub iri_text : ℕ → Text
-  iri_text n = 60 ∷ unwrap_or (slice_get names n) [] ++ 62 ∷ []
-
   abbrev pub class_text : ℕ → Text
-  class_text n = if bytes_eq owl_nothing (unwrap_or (slice_get names n) []) then codes "owl:Nothing" else iri_text n
+  class_text n =
+      if bytes_eq owl_nothing (unwrap_or (slice_get names n) []) then codes "owl:Nothing" else name_text names n
 
   abbrev pub role_text : Role → Text
   role_text r =
-      if r.inverse then construct_text keyword.ObjectInverseOf (iri_text (property_of r) ∷ [])
-      else iri_text (property_of r)
+      if r.inverse then construct_text keyword.ObjectInverseOf (name_text names (property_of r) ∷ [])
+      else name_text names (property_of r)
 
   -- what has a neighbour by a role, in the class of this text
   abbrev pub some_text : Role → Text → Text
@@ -88,7 +90,3 @@ module _ (names : List Text) where
 
   abbrev pub axiom_text : Axiom → Text
   axiom_text a = construct_text (axiom_keyword a) (operand_texts a)
-
--- the numbers are below the count of the names
-abbrev pub AreBelow : ℕ → List ℕ → Type 0
-AreBelow count numbers = All (λ n. n < count) numbers

@@ -1,6 +1,6 @@
 use Rattle.std.proofs.Common.{if◌then◌else◌, sym, ap, ◌∙◌}
 use Rattle.dl_terms.specs.declared.axiom.Fact.TheVariants as facts
-use Rattle.dl_owl.specs.Items.{property_of}
+use Rattle.dl_text.specs.AxiomText.{property_of}
 use Rattle.dl_owl.proofs.assertion.link.Goals as goal
 
 pub returns-then-role : goal.returns-then-role

@@ -1,6 +1,6 @@
 use Rattle.std.proofs.Common.{◌≡◌, ◌∷◌, ◌++◌, take, string_bytes}
 use Rattle.std.specs.List.{flat_map}
-use Rattle.dl_owl.specs.AxiomText.{basic_text}
+use Rattle.dl_text.specs.AxiomText.{basic_text}
 use Rattle.dl_owl.proofs.text.more_basics.Given as goal
 
 abbrev pub invariant-loop-item : goal.invariant-loop-item

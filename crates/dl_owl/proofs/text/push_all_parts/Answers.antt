@@ -1,6 +1,6 @@
 use Rattle.std.proofs.Common.{string_bytes}
-use Rattle.dl_owl.specs.AxiomText.{part_text}
-use Rattle.dl_owl.proofs.TextLemmas.{joined_of}
+use Rattle.dl_text.specs.AxiomText.{part_text}
+use Rattle.dl_text.proofs.TextLemmas.{joined_of}
 use Rattle.dl_owl.proofs.text.push_all_parts.Goals as goal
 
 pub returns : goal.returns

@@ -1,7 +1,7 @@
 use Rattle.std.proofs.Common.{length}
 use Rattle.std.specs.List.{flat_map}
 use Rattle.dl_terms.specs.Occurring.{basic_names, part_names}
-use Rattle.dl_owl.proofs.TextLemmas.{below_right, below_each}
+use Rattle.dl_text.proofs.TextLemmas.{below_right, below_each}
 use Rattle.dl_owl.proofs.text.push_basic_and_parts.Goals as goal
 
 pub push_parts-requires : goal.push_parts-requires

@@ -1,6 +1,6 @@
 use Rattle.std.proofs.Common.{length, ap}
 use Rattle.dl_terms.specs.Occurring.{basic_names, role_names, axiom_names}
-use Rattle.dl_owl.proofs.TextLemmas.{items_below}
+use Rattle.dl_text.proofs.TextLemmas.{items_below}
 use Rattle.dl_owl.proofs.text.push_operands.Goals as goal
 
 pub push_basics-requires : goal.push_basics-requires

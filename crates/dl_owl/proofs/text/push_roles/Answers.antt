@@ -1,6 +1,6 @@
 use Rattle.std.proofs.Common.{string_bytes}
-use Rattle.dl_owl.specs.AxiomText.{role_text}
-use Rattle.dl_owl.proofs.TextLemmas.{joined_of}
+use Rattle.dl_text.specs.AxiomText.{role_text}
+use Rattle.dl_text.proofs.TextLemmas.{joined_of}
 use Rattle.dl_owl.proofs.text.push_roles.Goals as goal
 
 pub returns : goal.returns

@@ -1,8 +1,8 @@
 use Rattle.std.proofs.Common.{◌≡◌, ℕ, List, ◌++◌, length, ap, subst, refl}
 use Rattle.std.specs.List.{All, flat_map}
 use Rattle.dl_terms.specs.Occurring.{basic_names, role_names, part_names, axiom_names}
-use Rattle.dl_owl.specs.AxiomText.{AreBelow}
-use Rattle.dl_owl.proofs.TextLemmas.{items_below, below_left, below_right}
+use Rattle.dl_text.specs.NameText.{AreBelow}
+use Rattle.dl_text.proofs.TextLemmas.{items_below, below_left, below_right}
 use Rattle.dl_stream.proofs.axiom_ranks.rank_axiom.Goals as goal
 
 -- the names of items behind others

@@ -1,6 +1,6 @@
 use Rattle.std.proofs.Common.{◌≡◌, ◌∷◌, ◌++◌, take, string_bytes}
 use Rattle.std.specs.List.{flat_map}
-use Rattle.dl_stream.specs.StreamText.{atom_text}
+use Rattle.dl_text.specs.QueryText.{atom_text}
 use Rattle.dl_stream.proofs.query_text.more_atoms.Given as goal
 
 abbrev pub invariant-loop-atom : goal.invariant-loop-atom

@@ -1,6 +1,6 @@
 use Rattle.std.proofs.Common.{◌≡◌, ◌∷◌, ◌++◌, take, string_bytes}
 use Rattle.std.specs.List.{flat_map}
-use Rattle.dl_stream.specs.StreamText.{variable_text}
+use Rattle.dl_text.specs.QueryText.{variable_text}
 use Rattle.dl_stream.proofs.query_text.more_variables.Given as goal
 
 abbrev pub invariant-loop-variable : goal.invariant-loop-variable

@@ -1,5 +1,5 @@
 use Rattle.std.proofs.Common.{length, refl}
-use Rattle.dl_owl.proofs.TextLemmas.{items_below}
+use Rattle.dl_text.proofs.TextLemmas.{items_below}
 use Rattle.dl_terms.specs.Occurring.{atom_names, query_names}
 use Rattle.dl_stream.proofs.query_text.push_query.Goals as goal
 

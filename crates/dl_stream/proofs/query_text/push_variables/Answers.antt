@@ -1,5 +1,5 @@
 use Rattle.std.proofs.Common.{string_bytes}
-use Rattle.dl_stream.specs.StreamText.{variable_text}
+use Rattle.dl_text.specs.QueryText.{variable_text}
 use Rattle.dl_stream.proofs.StreamTextLemmas.{comma_joined_of}
 use Rattle.dl_stream.proofs.query_text.push_variables.Goals as goal
 

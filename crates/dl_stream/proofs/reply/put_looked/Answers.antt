@@ -1,9 +1,9 @@
 use Rattle.std.proofs.Common.{length, ap, sym, subst, codes, ◌++◌}
 use Rattle.std.specs.List.{flat_map}
-use Rattle.dl_owl.specs.AxiomText.{AreBelow}
-use Rattle.dl_owl.proofs.TextLemmas.{below_left, below_right}
+use Rattle.dl_text.specs.NameText.{AreBelow}
+use Rattle.dl_text.proofs.TextLemmas.{below_left, below_right}
 use Rattle.dl_stream.specs.Lines.{individuals, predicate_lines, row_line}
-use Rattle.dl_stream.proofs.PrintLemmas.{prints_as, prints_failed, prints_then}
+use Rattle.dl_io.proofs.PrintLemmas.{prints_as, prints_failed, prints_then}
 use Rattle.dl_stream.proofs.reply.put_looked.Goals as goal
 
 pub put_predicates-requires : goal.put_predicates-requires

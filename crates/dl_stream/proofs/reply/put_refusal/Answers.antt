@@ -1,6 +1,6 @@
 use Rattle.std.proofs.Common.{ap, sym}
 use Rattle.dl_stream.specs.Outcomes.{placed_line, refusal_words}
-use Rattle.dl_stream.proofs.PrintLemmas.{prints_as}
+use Rattle.dl_io.proofs.PrintLemmas.{prints_as}
 use Rattle.dl_stream.proofs.reply.put_refusal.Goals as goal
 
 pub returns-in-Full : goal.returns-in-Full

@@ -1,6 +1,6 @@
 use Rattle.std.proofs.Common.{ap, sym}
 use Rattle.dl_stream.specs.Outcomes.{reply_text}
-use Rattle.dl_stream.proofs.PrintLemmas.{prints_as}
+use Rattle.dl_io.proofs.PrintLemmas.{prints_as}
 use Rattle.dl_stream.proofs.reply.put_reply.Goals as goal
 
 pub returns-in-Committed : goal.returns-in-Committed

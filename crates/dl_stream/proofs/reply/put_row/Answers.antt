@@ -1,5 +1,5 @@
 use Rattle.dl_stream.proofs.LineLemmas.{row_printed}
-use Rattle.dl_stream.proofs.PrintLemmas.{prints_as, prints_failed, prints_then}
+use Rattle.dl_io.proofs.PrintLemmas.{prints_as, prints_failed, prints_then}
 use Rattle.dl_stream.proofs.reply.put_row.Goals as goal
 
 pub returns-in_err-put_epoch : goal.returns-in_err-put_epoch

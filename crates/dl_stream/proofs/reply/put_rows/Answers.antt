@@ -1,11 +1,11 @@
 use Rattle.std.proofs.Common.{length, refl}
-use Rattle.dl_owl.proofs.TextLemmas.{below_each}
+use Rattle.dl_text.proofs.TextLemmas.{below_each}
 use Rattle.dl_stream.specs.Lines.{row_line, individuals}
-use Rattle.dl_stream.proofs.PrintLemmas.{prints_none, prints_next, prints_next_failed, prints_whole}
+use Rattle.dl_io.proofs.PrintLemmas.{prints_none, prints_next, prints_next_failed, prints_whole}
 use Rattle.dl_stream.proofs.reply.put_rows.Goals as goal
 
 pub loop-row-init : goal.loop-row-init
-loop-row-init g c = prints_none _ _
+loop-row-init g c = prints_none _
 
 pub returns-in_err-put_row : goal.returns-in_err-put_row
 returns-in_err-put_row g c =
