@@ -11,7 +11,8 @@ use Rattle.dl_terms.specs.declared.axiom.Fact.TheVariants as fact
 use Rattle.dl_owl.specs.declared.document.Document.{Document}
 use Rattle.dl_owl.specs.Symbols.{Symbol, closing, node, keyword}
 use Rattle.dl_owl.specs.Prefixes.{Prefixes}
-use Rattle.dl_owl.specs.NamesNext.{owl_thing, owl_top_object_property, may_be_class, IsIri, IsNameOf}
+use Rattle.dl_owl.specs.NamesNext.{owl_thing, owl_top_object_property, IsIri, IsNameOf}
+use Rattle.dl_names.specs.Iris.{may_be_class}
 use Rattle.dl_owl.specs.Annotations.{ValueThen}
 use Rattle.dl_owl.specs.Expressions.{RoleThen, SupThen, RolesThen, SubsThen}
 use Rattle.dl_owl.specs.declared.item.Item.{Item}

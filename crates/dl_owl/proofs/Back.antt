@@ -15,7 +15,8 @@ use Rattle.dl_owl.specs.declared.document.Document.{Document}
 use Rattle.dl_owl.specs.declared.fault.Construct.TheVariants.{Thing}
 use Rattle.dl_owl.specs.Symbols.{Symbol, opening, closing, full_iri, short_iri, keyword}
 use Rattle.dl_owl.specs.Prefixes.{Prefixes, iri_of}
-use Rattle.dl_owl.specs.NamesNext.{owl_thing, owl_top_object_property, is_free, may_be_class, IsIri, IsNameOf}
+use Rattle.dl_owl.specs.NamesNext.{owl_thing, owl_top_object_property, IsIri, IsNameOf}
+use Rattle.dl_names.specs.Iris.{is_free, may_be_class}
 use Rattle.dl_owl.specs.Expressions as expressions
 use Rattle.dl_owl.specs.Expressions.{RoleThen, SubThen, SupThen, SupsThen, RolesThen, SubsThen}
 use Rattle.dl_owl.specs.Causes.{syntax, not_ql, left_out, reserved}

@@ -4,7 +4,7 @@ use Rattle.std.proofs.lemmas.Result.{err_from_is_err_and}
 use Rattle.dl_lex.specs.declared.token.TokenKind.{TokenKind}
 use Rattle.dl_lex.specs.declared.token.TokenKind.TheVariants.{Open, Close, End}
 use Rattle.dl_names.specs.NameList as name_list
-use Rattle.dl_names.specs.NameList.{names_after, place_of}
+use Rattle.dl_names.specs.NameList.{names_after, place_of, has_no_place}
 use Rattle.dl_names.proofs.NameListLemmas.{Extends-names_after}
 use Rattle.dl_owl.specs.declared.fault.OwlFault.{OwlFault}
 use Rattle.dl_owl.specs.declared.fault.OwlFault.TheVariants as fault
@@ -14,7 +14,7 @@ use Rattle.dl_owl.specs.Prefixes.{Prefixes}
 use Rattle.dl_owl.specs.Causes.{syntax, too_deep, too_many_names}
 use Rattle.dl_owl.specs.Expected.{Expected, open_then, close_then, goes, takes_name, refuses}
 use Rattle.dl_owl.specs.Steps.{move_of}
-use Rattle.dl_owl.specs.Reading.{fails, depth_after, is_too_deep, is_full, outcome_of, outcome}
+use Rattle.dl_owl.specs.Reading.{fails, depth_after, is_too_deep, outcome_of, outcome}
 use Rattle.dl_owl.specs.Walk as walk
 use Rattle.dl_owl.specs.Walk.{Spot, symbol_at, Here, here, met_of, FromToken, Goes, Faults, Moved, NoneNext, Reads, Passes}
 use Rattle.dl_owl.proofs.AheadLemmas.{moved_ahead}
@@ -126,13 +126,13 @@ module _ (s : Spot) (p : Prefixes) (names : List name_list.Text) (k : Expected) 
 module _ (e : Expected) (s : Spot) (p : Prefixes) (names : List name_list.Text) (text : name_list.Text) (k : ℕ → Expected)
     (is : move_of p e (symbol_at s) ≡ takes_name text k) (flat : (t : ℕ) → is_too_deep (symbol_at s) t ≡ false)
     (level : depth_after (symbol_at s) s.depth ≡ s.depth) (some : s.token.kind ≢ End) where
-  taken : is_full names text ≡ false → (rest : List Placed)
+  taken : has_no_place names text ≡ false → (rest : List Placed)
       → outcome e (met_of (here s p names)) (placed s.bytes s.token ∷ rest)
       ≡ outcome (k (place_of (names_after names text) text)) (record { prefixes = p; names = names_after names text; depth = s.depth }) rest
   taken room rest =
       ap (outcome_of (met_of (here s p names)) (placed s.bytes s.token) (λ f later. outcome f later rest)) is
       ∙ ap (λ b. cond b (fails too_deep s.token.start)
-      (cond (is_full names text) (fails too_many_names s.token.start)
+      (cond (has_no_place names text) (fails too_many_names s.token.start)
       (outcome (k (place_of (names_after names text) text)) (record { prefixes = p; names = names_after names text; depth = depth_after (symbol_at s) s.depth }) rest)))
       (flat s.depth)
       ∙ ap (λ b. cond b (fails too_many_names s.token.start)
@@ -140,7 +140,7 @@ module _ (e : Expected) (s : Spot) (p : Prefixes) (names : List name_list.Text) 
       room
       ∙ ap (λ d. outcome (k (place_of (names_after names text) text)) (record { prefixes = p; names = names_after names text; depth = d }) rest) level
 
-  pub name-goes : is_full names text ≡ false → (new : Spot) → Moved s new
+  pub name-goes : has_no_place names text ≡ false → (new : Spot) → Moved s new
       → Goes e (here s p names) (k (place_of (names_after names text) text)) (here new p (names_after names text))
   name-goes room new m = record {
     same = m.bytes;
@@ -156,7 +156,7 @@ module _ (e : Expected) (s : Spot) (p : Prefixes) (names : List name_list.Text) 
     );
   }
 
-  pub name-full : is_full names text ≡ true → Faults e (here s p names) names (fault.TooManyNames s.token.start)
+  pub name-full : has_no_place names text ≡ true → Faults e (here s p names) names (fault.TooManyNames s.token.start)
   name-full full =
       faults_here e (here s p names) (fault.TooManyNames s.token.start)
       (record {
@@ -168,7 +168,7 @@ module _ (e : Expected) (s : Spot) (p : Prefixes) (names : List name_list.Text) 
         comes =
             ap (outcome_of (met_of (here s p names)) (placed s.bytes s.token) (λ f later. outcome f later [])) is
             ∙ ap (λ b. cond b (fails too_deep s.token.start)
-            (cond (is_full names text) (fails too_many_names s.token.start)
+            (cond (has_no_place names text) (fails too_many_names s.token.start)
             (outcome (k (place_of (names_after names text) text)) (record { prefixes = p; names = names_after names text; depth = depth_after (symbol_at s) s.depth }) [])))
             (flat s.depth)
             ∙ ap (λ b. cond b (fails too_many_names s.token.start)
@@ -176,7 +176,7 @@ module _ (e : Expected) (s : Spot) (p : Prefixes) (names : List name_list.Text) 
             full;
       })
 
-  pub name-faults : is_full names text ≡ false → (fault : OwlFault) → NoneNext s fault
+  pub name-faults : has_no_place names text ≡ false → (fault : OwlFault) → NoneNext s fault
       → Faults e (here s p names) (names_after names text) fault
   name-faults room fault none =
       subst (Faults e (here s p names) (names_after names text)) (sym none.is)

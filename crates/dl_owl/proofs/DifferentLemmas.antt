@@ -13,7 +13,8 @@ use Rattle.dl_names.proofs.SetLemmas.{has_name_shown}
 use Rattle.dl_owl.specs.declared.fault.OwlFault.{OwlFault}
 use Rattle.dl_owl.specs.Symbols.{Symbol, symbol_of}
 use Rattle.dl_owl.specs.Prefixes.{Prefixes}
-use Rattle.dl_owl.specs.NamesNext.{is_free, IsIri}
+use Rattle.dl_owl.specs.NamesNext.{IsIri}
+use Rattle.dl_names.specs.Iris.{is_free}
 use Rattle.dl_owl.specs.Causes.{reserved}
 use Rattle.dl_owl.specs.Refused.{keyword_left_out}
 use Rattle.dl_owl.specs.Expected.{Expected, close_then, different_close, Move, goes, refuses}

@@ -2,7 +2,7 @@
 use Rattle.std.proofs.Common.{◌≡◌, ℕ, ◌+◌, ◌≤◌, suc, zero, Bool, true, false, cond, not, ◌&&◌, nat_le, inl, inr, if◌then◌else◌, List, [], ◌∷◌, length, refl, ap, ◌∙◌, subst, arith, ◌++◌}
 use Rattle.std.proofs.lemmas.Bool.{leb-false, lt-leb}
 use Rattle.std.proofs.lemmas.List.{length-append}
-use Rattle.dl_names.specs.NameList.{Text, has_name, max_names, names_after, place_of}
+use Rattle.dl_names.specs.NameList.{Text, has_name, max_names, names_after, place_of, has_no_place}
 use Rattle.dl_names.proofs.NameListLemmas.{Extends-names_after, length-Extends, names_after-old, names_after-new}
 use Rattle.dl_terms.specs.declared.role.Role.{Role}
 use Rattle.dl_terms.specs.declared.role.Basic.{Basic}
@@ -22,7 +22,7 @@ use Rattle.dl_owl.specs.Items.{empty_document}
 use Rattle.dl_owl.specs.Causes.{too_deep, too_many_names}
 use Rattle.dl_owl.specs.Expected.{Expected, prologue, prefix_name, prefix_equals, prefix_iri, title, annotations_first, items, lone_axiom, finish, done, open_then, close_then, annotations_then, iri_then, subject_then, value_then, value_end, property_then, role_then, first_role, second_role, sub_then, sup_then, thing_then, filler_then, roles_close, subs_close, sups_close, individual_then, unnamed_then, different_close, class_then, declared_class, entity_then, Move, goes, takes_name, declares, refuses}
 use Rattle.dl_owl.specs.Steps.{move_of}
-use Rattle.dl_owl.specs.Reading.{Met, Outcome, gives, fails, depth_after, is_too_deep, at_depth, is_full, outcome_of, last_outcome, outcome, is_shallow}
+use Rattle.dl_owl.specs.Reading.{Met, Outcome, gives, fails, depth_after, is_too_deep, at_depth, outcome_of, last_outcome, outcome, is_shallow}
 use Rattle.dl_owl.proofs.Turns.{deeper}
 use Rattle.dl_owl.proofs.Meaning.{Sees, SeesThis, SupsAtLeast, TitleUpTo, no_iri, FirstMean, Means, Comes}
 use Rattle.dl_owl.proofs.TextForth.{forth}
@@ -36,17 +36,17 @@ longer names text = length-Extends names (names_after names text) (Extends-names
 longer_by_one : (names : List Text) (text : Text) → has_name names text ≡ false → length (names_after names text) ≡ length names + 1
 longer_by_one names text new = ap length (names_after-new names text new) ∙ length-append names (text ∷ [])
 
-room : (names : List Text) (text : Text) → is_full names text ≡ false → length names ≤ max_names → length (names_after names text) ≤ max_names
+room : (names : List Text) (text : Text) → has_no_place names text ≡ false → length names ≤ max_names → length (names_after names text) ≤ max_names
 room names text h fits = by (has_name names text) refl h
   where
     by : (b : Bool) → has_name names text ≡ b → (not b && nat_le max_names (length names)) ≡ false → length (names_after names text) ≤ max_names
     by true known full = omega (arith, ap length (names_after-old names text known), fits)
     by false new full = omega (arith, longer_by_one names text new, leb-false max_names (length names) full)
 
-not_full : (names : List Text) (text : Text) (most : ℕ) → length (names_after names text) ≤ most → most ≤ max_names → is_full names text ≡ false
+not_full : (names : List Text) (text : Text) (most : ℕ) → length (names_after names text) ≤ most → most ≤ max_names → has_no_place names text ≡ false
 not_full names text most grown fits = by (has_name names text) refl
   where
-    by : (b : Bool) → has_name names text ≡ b → is_full names text ≡ false
+    by : (b : Bool) → has_name names text ≡ b → has_no_place names text ≡ false
     by true known = ap (λ b. not b && nat_le max_names (length names)) known
     by false new =
         ap (λ b. not b && nat_le max_names (length names)) new
@@ -204,11 +204,11 @@ module _ (document : Document) (final : List Text) where
     move-sound (takes_name text k) h =
         let go =
         not_deep
-        (λ later. if is_full met.names text then fails too_many_names t.at
+        (λ later. if has_no_place met.names text then fails too_many_names t.at
         else outcome (k (place_of (names_after met.names text) text)) (record later { names = names_after met.names text }) tokens) h in
-        by (is_full met.names text) refl go.0 go.1
+        by (has_no_place met.names text) refl go.0 go.1
       where
-        by : (b : Bool) → is_full met.names text ≡ b → is_too_deep t.symbol met.depth ≡ false
+        by : (b : Bool) → has_no_place met.names text ≡ b → is_too_deep t.symbol met.depth ≡ false
             → cond b (fails too_many_names t.at) (outcome (k (place_of (names_after met.names text) text)) (record (deeper met t) { names = names_after met.names text }) tokens) ≡ gives document final
             → IsReadMove (takes_name text k)
         by true full is g = absurd (cc)
@@ -274,7 +274,7 @@ module _ (document : Document) (final : List Text) where
     move-complete (takes_name text k) so =
         let grown = grows (symbols_of tokens) (k (place_of (names_after met.names text) text)) met.prefixes (names_after met.names text) so in
         at_depth-is
-        (λ later. if is_full met.names text then fails too_many_names t.at
+        (λ later. if has_no_place met.names text then fails too_many_names t.at
         else outcome (k (place_of (names_after met.names text) text)) (record later { names = names_after met.names text }) tokens)
         ∙ ap (λ b. cond b (fails too_many_names t.at)
         (outcome (k (place_of (names_after met.names text) text)) (record (deeper met t) { names = names_after met.names text }) tokens))

@@ -14,7 +14,8 @@ use Rattle.dl_terms.specs.declared.axiom.Part.TheVariants as part
 use Rattle.dl_owl.specs.declared.document.Document.{Document}
 use Rattle.dl_owl.specs.Symbols.{Symbol, opening, closing, caret, string, language, node, keyword}
 use Rattle.dl_owl.specs.Prefixes.{Prefixes}
-use Rattle.dl_owl.specs.NamesNext.{owl_thing, owl_top_object_property, is_free, may_be_class, IsIri, IsNameOf}
+use Rattle.dl_owl.specs.NamesNext.{owl_thing, owl_top_object_property, IsIri, IsNameOf}
+use Rattle.dl_names.specs.Iris.{is_free, may_be_class}
 use Rattle.dl_owl.specs.Annotations as annotations
 use Rattle.dl_owl.specs.Annotations.{ValueThen, AnnotationsThen}
 use Rattle.dl_owl.specs.Expressions as expressions

@@ -5,7 +5,8 @@ use Rattle.dl_names.specs.NameList.{Text}
 use Rattle.dl_names.proofs.NameListLemmas.{same-bytes_eq}
 use Rattle.dl_owl.specs.Symbols.{Symbol, full_iri, short_iri}
 use Rattle.dl_owl.specs.Prefixes.{Prefixes, expanded}
-use Rattle.dl_owl.specs.NamesNext.{owl_thing, may_be_class, IsIri}
+use Rattle.dl_owl.specs.NamesNext.{owl_thing, IsIri}
+use Rattle.dl_names.specs.Iris.{may_be_class}
 use Rattle.dl_owl.specs.Causes.{Cause, prefix_unknown, reserved}
 use Rattle.dl_owl.specs.Expected.{Expected, Move, takes_name, refuses}
 use Rattle.dl_owl.specs.Steps.{at_iri, name_next, named_next, class_or_thing}

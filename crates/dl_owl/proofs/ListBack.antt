@@ -9,7 +9,8 @@ use Rattle.dl_terms.specs.declared.axiom.Part.{Part}
 use Rattle.dl_owl.specs.declared.document.Document.{Document}
 use Rattle.dl_owl.specs.Symbols.{Symbol, opening, closing, full_iri, short_iri, string, node, keyword}
 use Rattle.dl_owl.specs.Prefixes.{Prefixes}
-use Rattle.dl_owl.specs.NamesNext.{owl_thing, is_free, IsIri}
+use Rattle.dl_owl.specs.NamesNext.{owl_thing, IsIri}
+use Rattle.dl_names.specs.Iris.{is_free}
 use Rattle.dl_owl.specs.Annotations as annotations
 use Rattle.dl_owl.specs.Annotations.{ValueThen, AnnotationsThen}
 use Rattle.dl_owl.specs.Expressions as expressions

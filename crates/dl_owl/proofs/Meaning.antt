@@ -7,7 +7,8 @@ use Rattle.dl_terms.specs.declared.axiom.Part.TheVariants as part
 use Rattle.dl_owl.specs.declared.document.Document.{Document}
 use Rattle.dl_owl.specs.Symbols.{Symbol, opening, closing, equals, full_iri, short_iri, string, node, keyword, ending}
 use Rattle.dl_owl.specs.Prefixes.{Prefixes, prefix_of, local_of, declared_iri}
-use Rattle.dl_owl.specs.NamesNext.{owl_thing, owl_top_object_property, is_free, may_be_class, IsIri, IsNameOf}
+use Rattle.dl_owl.specs.NamesNext.{owl_thing, owl_top_object_property, IsIri, IsNameOf}
+use Rattle.dl_names.specs.Iris.{is_free, may_be_class}
 use Rattle.dl_owl.specs.Annotations.{ValueThen, AnnotationsThen}
 use Rattle.dl_owl.specs.Expressions.{RoleThen, SubThen, SupThen, SupsThen, RolesThen, SubsThen}
 use Rattle.dl_owl.specs.declared.item.Item.{Item}

@@ -9,7 +9,8 @@ use Rattle.dl_terms.specs.Roles.{named}
 use Rattle.dl_terms.specs.declared.role.Role.{Role}
 use Rattle.dl_owl.specs.Symbols.{Symbol, symbol_of}
 use Rattle.dl_owl.specs.Prefixes.{Prefixes}
-use Rattle.dl_owl.specs.NamesNext.{owl_top_object_property, is_free, IsIri}
+use Rattle.dl_owl.specs.NamesNext.{owl_top_object_property, IsIri}
+use Rattle.dl_names.specs.Iris.{is_free}
 use Rattle.dl_owl.specs.Causes.{syntax, not_ql, reserved}
 use Rattle.dl_owl.specs.Expected.{Expected, Move, goes, refuses}
 use Rattle.dl_owl.specs.Steps.{at_iri, name_next, role_next, first_role_next, second_role_next}

@@ -17,7 +17,8 @@ use Rattle.dl_owl.specs.declared.fault.Construct.TheVariants.{Thing}
 use Rattle.dl_owl.specs.Refused.{refused_sub}
 use Rattle.dl_owl.specs.Symbols.{Symbol, keyword, symbol_of}
 use Rattle.dl_owl.specs.Prefixes.{Prefixes}
-use Rattle.dl_owl.specs.NamesNext.{owl_thing, is_free, may_be_class, IsIri}
+use Rattle.dl_owl.specs.NamesNext.{owl_thing, IsIri}
+use Rattle.dl_names.specs.Iris.{is_free, may_be_class}
 use Rattle.dl_owl.specs.Causes.{syntax, not_ql, left_out}
 use Rattle.dl_owl.specs.Expected.{Expected, Move, goes, refuses}
 use Rattle.dl_owl.specs.Steps.{at_iri, name_next, named_next, class_or_thing, role_next, sub_next, move_of}

@@ -4,7 +4,7 @@ use Rattle.std.specs.Option.{option_map}
 use Rattle.std.specs.Str.{bytes_eq}
 use Rattle.dl_lex.specs.declared.keyword.Keyword.{Keyword}
 use Rattle.dl_names.specs.NameList.{Text, names_after, place_of, Extends}
-use Rattle.dl_names.specs.Iris.{IsIri}
+use Rattle.dl_names.specs.Iris.{IsIri, is_free, may_be_class}
 use Rattle.dl_names.proofs.NameListLemmas.{Extends-same, Extends-trans, Extends-names_after, has_name-names_after, slice_get-place_of, slice_get-Extends}
 use Rattle.dl_terms.specs.declared.role.Role.{Role}
 use Rattle.dl_terms.specs.declared.role.Basic.{Basic}
@@ -13,7 +13,7 @@ use Rattle.dl_owl.specs.declared.document.Document.{Document}
 use Rattle.dl_owl.specs.Symbols.{Symbol, full_iri, short_iri}
 use Rattle.dl_owl.specs.Prefixes.{Prefixes, predefined, prefix_of, local_of, declared_iri}
 use Rattle.dl_owl.specs.NamesNext as names_next
-use Rattle.dl_owl.specs.NamesNext.{is_free, may_be_class, IsNameOf}
+use Rattle.dl_owl.specs.NamesNext.{IsNameOf}
 use Rattle.dl_owl.specs.Annotations as annotations
 use Rattle.dl_owl.specs.Annotations.{ValueThen, AnnotationsThen}
 use Rattle.dl_owl.specs.Expressions as expressions

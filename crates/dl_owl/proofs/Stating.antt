@@ -10,7 +10,7 @@ use Rattle.dl_lex.specs.declared.token.TokenKind.TheVariants.{Short, Word}
 use Rattle.dl_lex.specs.Grammar as grammar
 use Rattle.dl_names.specs.NameList.{Text, HasNoRepeats}
 use Rattle.dl_names.specs.Iris as iris
-use Rattle.dl_names.specs.Iris.{owl_nothing}
+use Rattle.dl_names.specs.Iris.{owl_nothing, is_free, may_be_class}
 use Rattle.dl_names.proofs.NameListLemmas.{same-bytes_eq, names_after-old, has_name-slice_get, place_of-slice_get}
 use Rattle.dl_terms.specs.declared.role.Role.{Role}
 use Rattle.dl_terms.specs.declared.role.Basic.{Basic}
@@ -22,7 +22,7 @@ use Rattle.dl_terms.specs.declared.axiom.Axiom.TheVariants as axioms
 use Rattle.dl_terms.specs.Roles.{named, inverse_of}
 use Rattle.dl_owl.specs.Symbols.{Symbol, opening, closing, full_iri, short_iri, keyword, ending}
 use Rattle.dl_owl.specs.Prefixes.{predefined}
-use Rattle.dl_owl.specs.NamesNext.{is_free, may_be_class, IsIri, IsNameOf}
+use Rattle.dl_owl.specs.NamesNext.{IsIri, IsNameOf}
 use Rattle.dl_owl.specs.Annotations as annotations
 use Rattle.dl_owl.specs.Expressions as expressions
 use Rattle.dl_owl.specs.Expressions.{RoleThen, SubThen, SupThen, SupsThen, RolesThen, SubsThen}

@@ -6,7 +6,7 @@ use Rattle.std.proofs.lemmas.Bool.Decides.{nat_tests}
 use Rattle.dl_lex.specs.declared.token.TokenKind.{TokenKind}
 use Rattle.dl_lex.specs.declared.token.TokenKind.TheVariants.{Node, End}
 use Rattle.dl_names.specs.NameList as name_list
-use Rattle.dl_names.specs.NameList.{max_names, has_name, names_after, place_of}
+use Rattle.dl_names.specs.NameList.{max_names, has_name, names_after, place_of, has_no_place}
 use Rattle.dl_owl.specs.declared.fault.OwlFault.{OwlFault}
 use Rattle.dl_owl.specs.declared.fault.OwlFault.TheVariants as fault
 use Rattle.dl_owl.specs.Symbols.{Symbol, full_iri, short_iri, ending, symbol_of}
@@ -15,7 +15,7 @@ use Rattle.dl_owl.specs.NamesNext.{IsIri}
 use Rattle.dl_owl.specs.Causes.{Cause, syntax, prefix_unknown, fault_of}
 use Rattle.dl_owl.specs.Expected.{Expected, prologue, Move, goes, takes_name, declares, refuses}
 use Rattle.dl_owl.specs.Steps.{at_iri, refused_individual, move_of}
-use Rattle.dl_owl.specs.Reading.{depth_after, is_too_deep, is_full}
+use Rattle.dl_owl.specs.Reading.{depth_after, is_too_deep}
 use Rattle.dl_owl.specs.Walk.{Spot, symbol_at, Here, here, Goes, Faults, Moved, NoneNext, Reads, Follows}
 use Rattle.dl_owl.proofs.WalkLemmas.{faults-refused}
 use Rattle.dl_owl.proofs.CursorLemmas.{advance-goes, advance-faults, name-goes, name-full, name-faults}
@@ -63,15 +63,15 @@ no_node kind bytes not = refl
 -- ---- whether there is a place for a name
 
 pub no_room : (names : List name_list.Text) (text : name_list.Text) → length names ≡ max_names → has_name names text ≡ false
-    → is_full names text ≡ true
+    → has_no_place names text ≡ true
 no_room names text full new =
     ap (λ b. not b && nat_le max_names (length names)) new ∙ ap (λ n. nat_le max_names n) full
 
 pub room : (names : List name_list.Text) (text : name_list.Text) → length (names_after names text) ≤ max_names
-    → is_full names text ≡ false
+    → has_no_place names text ≡ false
 room names text fits = by (has_name names text) refl
   where
-    by : (b : Bool) → has_name names text ≡ b → is_full names text ≡ false
+    by : (b : Bool) → has_name names text ≡ b → has_no_place names text ≡ false
     by true is = ap (λ b. not b && nat_le max_names (length names)) is
     by false is =
         let after : names_after names text ≡ names ++ text ∷ [] = rw is refl in
@@ -92,7 +92,7 @@ module _ (s : Spot) (p : Prefixes) (names : List name_list.Text) (text : name_li
   some : s.token.kind ≢ End
   some = iri_some p s.token.kind (slice_range s.bytes s.token.start s.token.end) text iri
 
-  pub took : is_full names text ≡ false → (new : Spot) → Moved s new → (after : List name_list.Text) (n : ℕ)
+  pub took : has_no_place names text ≡ false → (new : Spot) → Moved s new → (after : List name_list.Text) (n : ℕ)
       → after ≡ names_after names text → n ≡ place_of (names_after names text) text
       → Goes e (here s p names) (k n) (here new p after)
   took free new m after n named at =
@@ -100,13 +100,13 @@ module _ (s : Spot) (p : Prefixes) (names : List name_list.Text) (text : name_li
       (subst (λ j. Goes e (here s p names) (k j) (here new p (names_after names text))) (sym at)
       (name-goes e s p names text k is flat level some free new m))
 
-  pub took_full : is_full names text ≡ true → (after : List name_list.Text) → after ≡ names
+  pub took_full : has_no_place names text ≡ true → (after : List name_list.Text) → after ≡ names
       → Faults e (here s p names) after (fault.TooManyNames s.token.start)
   took_full full after same =
       subst (λ l. Faults e (here s p names) l (fault.TooManyNames s.token.start)) (sym same)
       (name-full e s p names text k is flat level some full)
 
-  pub took_faults : is_full names text ≡ false → (fault : OwlFault) → NoneNext s fault → (after : List name_list.Text)
+  pub took_faults : has_no_place names text ≡ false → (fault : OwlFault) → NoneNext s fault → (after : List name_list.Text)
       → after ≡ names_after names text → Faults e (here s p names) after fault
   took_faults free fault none after named =
       subst (λ l. Faults e (here s p names) l fault) (sym named)

@@ -20,7 +20,8 @@ use Rattle.dl_owl.specs.Ontologies.{PrefixesThen, AxiomsThen}
 use Rattle.dl_owl.specs.Causes.{syntax}
 use Rattle.dl_owl.specs.Expected.{Expected, prologue, prefix_name, prefix_equals, prefix_iri, title, annotations_first, items, lone_axiom, finish, done, open_then, close_then, annotations_then, iri_then, subject_then, value_then, value_end, property_then, role_then, first_role, second_role, sub_then, sup_then, thing_then, filler_then, roles_close, subs_close, sups_close, individual_then, unnamed_then, different_close, class_then, declared_class, entity_then, Move, goes, refuses, declares}
 use Rattle.dl_owl.specs.Steps.{at_iri, axiom_next, items_next, annotations_first_next, prologue_next, prefix_name_next, prefix_iri_next, refused_class, refused_individual, move_of}
-use Rattle.dl_owl.specs.NamesNext.{is_free, may_be_class, IsNameOf}
+use Rattle.dl_owl.specs.NamesNext.{IsNameOf}
+use Rattle.dl_names.specs.Iris.{is_free, may_be_class}
 use Rattle.dl_owl.proofs.Meaning.{SeesThis, NoAnnotation, TitleUpTo, no_iri, an_iri, AxiomsMean, FirstMean, TitleMeans, PrologueMeans, LoneMeans, Means, Comes}
 use Rattle.dl_owl.proofs.Back.{seen, seen_this, named-back, class_or-back, thing_or-back, at_iri-back, role-back, first_role-back, second_role-back, second_top-back, sub-back, thing-back, sup-back, filler_thing-back, filler-back}
 use Rattle.dl_owl.proofs.ListBack.{roles-back, subs-back, sups-back, one_annotation-back, subject-back, value-back, value_end-back, unnamed-back, different-back, entity-back}

@@ -1,11 +1,11 @@
 -- A token ends reading, or reading goes on in one way behind it: so a fault is told by the tokens up to it.
 use Rattle.std.proofs.Common.{◌≡◌, ℕ, Bool, true, false, cond, ◌⊎◌, inl, inr, if◌then◌else◌, List, [], ◌∷◌, ◌++◌, refl, sym, ap, ◌∙◌, subst}
-use Rattle.dl_names.specs.NameList.{names_after, place_of}
+use Rattle.dl_names.specs.NameList.{names_after, place_of, has_no_place}
 use Rattle.dl_owl.specs.Symbols.{Placed}
 use Rattle.dl_owl.specs.Causes.{Cause, too_deep, too_many_names}
 use Rattle.dl_owl.specs.Expected.{Expected, done, annotations_then, Move, goes, takes_name, declares, refuses}
 use Rattle.dl_owl.specs.Steps.{move_of}
-use Rattle.dl_owl.specs.Reading.{Met, Outcome, gives, fails, unfinished, depth_after, is_too_deep, at_depth, is_full, outcome_of, last_outcome, outcome, IsNoFault, FailsAt}
+use Rattle.dl_owl.specs.Reading.{Met, Outcome, gives, fails, unfinished, depth_after, is_too_deep, at_depth, outcome_of, last_outcome, outcome, IsNoFault, FailsAt}
 
 -- a value or a fault at the token
 abbrev pub IsEndAt : Placed → Outcome → Type 0
@@ -48,15 +48,15 @@ turn met t (goes e) =
     at_depth-turn met t (goes e) (λ f later. f e later) (λ f. refl) (λ _. inr (e, (deeper met t, λ f. refl)))
 turn met t (takes_name text k) =
     at_depth-turn met t (takes_name text k)
-    (λ f later. if is_full met.names text then fails too_many_names t.at else f (k (place_of (names_after met.names text) text)) (record later { names = names_after met.names text }))
-    (λ f. refl) (λ _. by (is_full met.names text) refl)
+    (λ f later. if has_no_place met.names text then fails too_many_names t.at else f (k (place_of (names_after met.names text) text)) (record later { names = names_after met.names text }))
+    (λ f. refl) (λ _. by (has_no_place met.names text) refl)
   where
     go : (f : Expected → Met → Outcome) → Outcome
     go f = f (k (place_of (names_after met.names text) text)) (record (deeper met t) { names = names_after met.names text })
 
-    by : (b : Bool) → is_full met.names text ≡ b
-        → ((o : Outcome) × (IsEndAt t o × ((f : Expected → Met → Outcome) → (if is_full met.names text then fails too_many_names t.at else go f) ≡ o)))
-        ⊎ ((e : Expected) × ((later : Met) × ((f : Expected → Met → Outcome) → (if is_full met.names text then fails too_many_names t.at else go f) ≡ f e later)))
+    by : (b : Bool) → has_no_place met.names text ≡ b
+        → ((o : Outcome) × (IsEndAt t o × ((f : Expected → Met → Outcome) → (if has_no_place met.names text then fails too_many_names t.at else go f) ≡ o)))
+        ⊎ ((e : Expected) × ((later : Met) × ((f : Expected → Met → Outcome) → (if has_no_place met.names text then fails too_many_names t.at else go f) ≡ f e later)))
     by true h = inl (fails too_many_names t.at, (refl, λ f. ap (λ c. cond c (fails too_many_names t.at) (go f)) h))
     by false h =
         inr (

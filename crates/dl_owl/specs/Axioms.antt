@@ -10,7 +10,8 @@ use Rattle.dl_terms.specs.declared.axiom.Axiom.TheVariants as axioms
 use Rattle.dl_terms.specs.declared.axiom.Fact.TheVariants as facts
 use Rattle.dl_owl.specs.Symbols.{Symbol, opening, closing, node, keyword}
 use Rattle.dl_owl.specs.Prefixes.{Prefixes}
-use Rattle.dl_owl.specs.NamesNext.{owl_thing, owl_top_object_property, is_free, may_be_class, IsIri, IsNameOf}
+use Rattle.dl_owl.specs.NamesNext.{owl_thing, owl_top_object_property, IsIri, IsNameOf}
+use Rattle.dl_names.specs.Iris.{is_free, may_be_class}
 use Rattle.dl_owl.specs.Annotations.{ValueThen, AnnotationsThen}
 use Rattle.dl_owl.specs.Expressions.{RoleThen, SubThen, SupThen, RolesThen, SubsThen}
 use Rattle.dl_owl.specs.declared.item.Item.{Item}

@@ -11,7 +11,8 @@ use Rattle.dl_terms.specs.declared.axiom.Part.TheVariants as part
 use Rattle.dl_terms.specs.Roles.{named, inverse_of}
 use Rattle.dl_owl.specs.Symbols.{Symbol, opening, closing, keyword}
 use Rattle.dl_owl.specs.Prefixes.{Prefixes}
-use Rattle.dl_owl.specs.NamesNext.{owl_thing, is_free, may_be_class, IsIri, IsNameOf}
+use Rattle.dl_owl.specs.NamesNext.{owl_thing, IsIri, IsNameOf}
+use Rattle.dl_names.specs.Iris.{is_free, may_be_class}
 
 module _ (p : Prefixes) where
   -- a role stands next, and then the rest

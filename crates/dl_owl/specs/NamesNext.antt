@@ -1,8 +1,6 @@
 -- The names of classes, object properties and individuals, as places among the names in the order of first occurrence.
-use Rattle.std.specs.Prelude.{◌≡◌, ℕ, Bool, true, not, ◌||◌, Some, List, codes}
-use Rattle.std.specs.Str.{bytes_eq}
+use Rattle.std.specs.Prelude.{◌≡◌, ℕ, Bool, true, Some, List, codes}
 use Rattle.dl_names.specs.NameList.{Text, names_after, place_of}
-use Rattle.dl_names.specs.Iris.{is_reserved, owl_nothing}
 use Rattle.dl_owl.specs.Symbols.{Symbol}
 use Rattle.dl_owl.specs.Prefixes.{Prefixes, iri_of}
 
@@ -11,14 +9,6 @@ owl_thing = codes "http://www.w3.org/2002/07/owl#Thing"
 
 abbrev pub owl_top_object_property : Text
 owl_top_object_property = codes "http://www.w3.org/2002/07/owl#topObjectProperty"
-
--- no reserved namespace begins the IRI: it may name an object property or an individual
-abbrev pub is_free : Text → Bool
-is_free iri = not (is_reserved iri)
-
--- the IRI may name a class: it is free, or that of owl:Nothing
-abbrev pub may_be_class : Text → Bool
-may_be_class iri = is_free iri || bytes_eq owl_nothing iri
 
 -- the token is the IRI
 abbrev pub IsIri : Prefixes → Symbol → Text → Type 0

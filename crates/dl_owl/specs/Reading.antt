@@ -1,6 +1,6 @@
 -- Reading an ontology: token by token, up to the end of the text or to the first token at which it can't go on.
-use Rattle.std.specs.Prelude.{◌≡◌, ℕ, suc, pred, Bool, true, false, ◌&&◌, not, nat_le, ◌++◌, List, [], ◌∷◌, length, if◌then◌else◌}
-use Rattle.dl_names.specs.NameList.{Text, max_names, has_name, names_after, place_of}
+use Rattle.std.specs.Prelude.{◌≡◌, ℕ, suc, pred, Bool, true, false, ◌&&◌, not, nat_le, ◌++◌, List, [], ◌∷◌, if◌then◌else◌}
+use Rattle.dl_names.specs.NameList.{Text, names_after, place_of, has_no_place}
 use Rattle.dl_owl.specs.declared.document.Document.{Document}
 use Rattle.dl_owl.specs.Symbols.{Symbol, opening, closing, Placed, AreTokens}
 use Rattle.dl_owl.specs.Prefixes.{Prefixes, predefined}
@@ -42,16 +42,12 @@ at_depth met t go =
     if is_too_deep t.symbol met.depth then fails too_deep t.at
     else go (record met { depth = depth_after t.symbol met.depth })
 
--- whether there is no place for a name
-abbrev pub is_full : List Text → Text → Bool
-is_full names text = not (has_name names text) && nat_le max_names (length names)
-
 -- what comes of a move at a token, where reading goes on so
 abbrev pub outcome_of : Met → Placed → (Expected → Met → Outcome) → Move → Outcome
 outcome_of met t onward (goes e) = at_depth met t (λ later. onward e later)
 outcome_of met t onward (takes_name text k) =
     at_depth met t (λ later.
-    if is_full met.names text then fails too_many_names t.at
+    if has_no_place met.names text then fails too_many_names t.at
     else (let after = names_after met.names text in onward (k (place_of after text)) (record later { names = after })))
 outcome_of met t onward (declares name iri e) =
     at_depth met t (λ later. onward e (record later { prefixes = met.prefixes ++ (name, iri) ∷ [] }))

@@ -17,7 +17,8 @@ use Rattle.dl_owl.specs.Causes.{Cause, syntax, prefix_unknown, not_ql, left_out,
 use Rattle.dl_owl.specs.declared.fault.Construct.TheVariants.{Thing, AnonymousIndividual}
 use Rattle.dl_owl.specs.Symbols.{Symbol, opening, closing, equals, caret, full_iri, short_iri, string, language, node, keyword, ending}
 use Rattle.dl_owl.specs.Prefixes.{Prefixes, prefix_of, local_of, declared_iri, expanded}
-use Rattle.dl_owl.specs.NamesNext.{owl_thing, owl_top_object_property, is_free, may_be_class}
+use Rattle.dl_owl.specs.NamesNext.{owl_thing, owl_top_object_property}
+use Rattle.dl_names.specs.Iris.{is_free, may_be_class}
 use Rattle.dl_owl.specs.declared.item.Item.{Item}
 use Rattle.dl_owl.specs.declared.item.Item.TheVariants.{Axiom as axiom_item, Fact as fact_item, Class as class_item, Role as role_item, NoEffect as no_effect}
 use Rattle.dl_owl.specs.Items.{empty_document, with_item, link}

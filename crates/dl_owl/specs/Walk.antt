@@ -92,7 +92,8 @@ abbrev pub Follows : {V : Type 0} → ((V → Expected) → Move) → Here → H
 Follows {V} m from to (Ok v) =
     (e : Expected) (k : V → Expected) → move_of from.prefixes e (symbol_at from.spot) ≡ m k → Goes e from (k v) to
 Follows {V} m from to (Err fault) =
-    (e : Expected) (k : V → Expected) → move_of from.prefixes e (symbol_at from.spot) ≡ m k → Faults e from to.names fault
+    (e : Expected) (k : V → Expected) → move_of from.prefixes e (symbol_at from.spot) ≡ m k
+    → Faults e from to.names fault
 
 -- an IRI of this text stands next; or, where one is expected or else it is this fault, reading comes to a fault
 abbrev pub Expects : Spot → Prefixes → Text → OwlFault → Result (Unit {0}) OwlFault → Type 0

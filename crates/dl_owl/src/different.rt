@@ -7,9 +7,10 @@ ghost use Rattle.dl_owl.specs.Walk.{here, Passes};
 
 use crate::cursor::{Cursor, close};
 use crate::fault::{Construct, OwlFault};
-use crate::name::{expect_iri, is_free, no_individual};
+use crate::name::{expect_iri, no_individual};
 use crate::prefixes::Prefixes;
 use dl_lex::Keyword;
+use dl_names::is_free;
 use indexmap::IndexSet;
 use std::alloc::Global;
 use std::marker::Model;

@@ -3,7 +3,8 @@ ghost use Rattle.std.specs.Prelude.{◌≡◌, Some, None, List, string_bytes};
 ghost use Rattle.dl_names.specs.NameList.{Text};
 ghost use Rattle.std.specs.Str.{bytes_eq};
 ghost use Rattle.dl_owl.specs.Prefixes.{Prefixes};
-ghost use Rattle.dl_owl.specs.NamesNext.{IsIri, is_free, may_be_class, owl_thing};
+ghost use Rattle.dl_owl.specs.NamesNext.{IsIri, owl_thing};
+ghost use Rattle.dl_names.specs.Iris.{is_free, may_be_class};
 ghost use Rattle.dl_owl.specs.Causes.{Cause, fault_of};
 ghost use Rattle.dl_owl.specs.Expected.{goes, takes_name, refuses, iri_then, property_then, individual_then, unnamed_then};
 ghost use Rattle.dl_owl.specs.Steps.{name_next, named_next, class_or_thing, refused_individual};
@@ -13,11 +14,9 @@ use crate::cursor::Cursor;
 use crate::fault::{Construct, OwlFault};
 use crate::iri::{Found, find_iri};
 use crate::prefixes::Prefixes;
-use dl_names::{NameFault, NameSet, is_reserved};
+use dl_names::{NameFault, NameSet, is_free, may_be_class};
 
 const OWL_THING: &str = "http://www.w3.org/2002/07/owl#Thing";
-
-const OWL_NOTHING: &str = "http://www.w3.org/2002/07/owl#Nothing";
 
 /// Takes the next token as a name, where it is an IRI of this text.
 fn take_name(at: &mut Cursor, names: &mut NameSet, text: &str) -> Result<u32, OwlFault>
@@ -34,13 +33,6 @@ fn take_name(at: &mut Cursor, names: &mut NameSet, text: &str) -> Result<u32, Ow
     Ok(place)
 }
 
-/// Whether an IRI may name an object property or an individual.
-pub(crate) fn is_free(text: &str) -> bool
-    ensures { result ≡ is_free text.now }
-{
-    !is_reserved(text.as_bytes())
-}
-
 /// Takes the next token as the name of an object property or of an individual, where it is an IRI of this text.
 pub(crate) fn take_free(at: &mut Cursor, names: &mut NameSet, text: &str) -> Result<u32, OwlFault>
     ensures { (p : Prefixes) → IsIri p (symbol_at at.old) text.now
@@ -51,13 +43,6 @@ pub(crate) fn take_free(at: &mut Cursor, names: &mut NameSet, text: &str) -> Res
         return Err(OwlFault::Reserved { at: start });
     }
     take_name(at, names, text)
-}
-
-/// Whether an IRI may name a class.
-fn may_be_class(text: &str) -> bool
-    ensures { result ≡ may_be_class text.now }
-{
-    is_free(text) || OWL_NOTHING == text
 }
 
 /// Takes the next token as the name of a class, where it is an IRI of this text.

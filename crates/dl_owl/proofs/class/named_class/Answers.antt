@@ -2,7 +2,8 @@ use Rattle.std.proofs.Common.{if◌then◌else◌, sym, ap, ◌∙◌, subst}
 use Rattle.std.specs.Str.{bytes_eq}
 use Rattle.dl_owl.specs.declared.fault.Construct.TheVariants.{Thing}
 use Rattle.dl_owl.specs.declared.fault.OwlFault.TheVariants as fault
-use Rattle.dl_owl.specs.NamesNext.{owl_thing, may_be_class, IsIri}
+use Rattle.dl_owl.specs.NamesNext.{owl_thing, IsIri}
+use Rattle.dl_names.specs.Iris.{may_be_class}
 use Rattle.dl_owl.specs.Causes.{syntax, left_out}
 use Rattle.dl_owl.specs.Expected.{refuses}
 use Rattle.dl_owl.specs.Steps.{name_next, class_or_thing}

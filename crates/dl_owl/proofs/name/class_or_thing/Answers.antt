@@ -1,6 +1,7 @@
 use Rattle.std.proofs.Common.{Some, None, if◌then◌else◌, sym, ◌∙◌, subst}
 use Rattle.std.specs.Str.{bytes_eq}
-use Rattle.dl_owl.specs.NamesNext.{owl_thing, may_be_class, IsIri}
+use Rattle.dl_owl.specs.NamesNext.{owl_thing, IsIri}
+use Rattle.dl_names.specs.Iris.{may_be_class}
 use Rattle.dl_owl.specs.Expected.{goes, refuses}
 use Rattle.dl_owl.specs.Steps.{name_next, class_or_thing}
 use Rattle.dl_owl.specs.Walk.{here, symbol_at}

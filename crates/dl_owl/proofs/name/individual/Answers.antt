@@ -1,5 +1,5 @@
 use Rattle.std.proofs.Common.{refl}
-use Rattle.dl_owl.specs.NamesNext.{is_free}
+use Rattle.dl_names.specs.Iris.{is_free}
 use Rattle.dl_owl.specs.Expected.{individual_then, refuses}
 use Rattle.dl_owl.specs.Steps.{named_next, refused_individual}
 use Rattle.dl_owl.specs.Walk.{here, symbol_at}

@@ -1,5 +1,6 @@
 use Rattle.std.proofs.Common.{sym, subst}
-use Rattle.dl_owl.specs.NamesNext.{IsIri, is_free}
+use Rattle.dl_owl.specs.NamesNext.{IsIri}
+use Rattle.dl_names.specs.Iris.{is_free}
 use Rattle.dl_owl.specs.Expected.{refuses}
 use Rattle.dl_owl.specs.Steps.{name_next, named_next}
 use Rattle.dl_owl.specs.Walk.{here, symbol_at}

@@ -1,6 +1,6 @@
 use Rattle.std.proofs.Common.{refl, ap}
 use Rattle.dl_owl.specs.declared.fault.OwlFault.TheVariants as fault
-use Rattle.dl_owl.specs.NamesNext.{is_free}
+use Rattle.dl_names.specs.Iris.{is_free}
 use Rattle.dl_owl.specs.Causes.{syntax}
 use Rattle.dl_owl.specs.Expected.{property_then, refuses}
 use Rattle.dl_owl.specs.Steps.{named_next}

@@ -1,6 +1,6 @@
 use Rattle.std.proofs.Common.{if◌then◌else◌, sym, ap, ◌∙◌, subst}
 use Rattle.dl_owl.specs.declared.fault.OwlFault.TheVariants as fault
-use Rattle.dl_owl.specs.NamesNext.{may_be_class}
+use Rattle.dl_names.specs.Iris.{may_be_class}
 use Rattle.dl_owl.specs.Causes.{reserved}
 use Rattle.dl_owl.specs.Expected.{takes_name, refuses}
 use Rattle.dl_owl.specs.Steps.{name_next}

@@ -1,6 +1,7 @@
 use Rattle.std.proofs.Common.{true, false, if◌then◌else◌, refl, sym, ◌∙◌, subst}
 use Rattle.dl_owl.specs.declared.fault.OwlFault.TheVariants as fault
-use Rattle.dl_owl.specs.NamesNext.{is_free, IsIri}
+use Rattle.dl_owl.specs.NamesNext.{IsIri}
+use Rattle.dl_names.specs.Iris.{is_free}
 use Rattle.dl_owl.specs.Causes.{reserved}
 use Rattle.dl_owl.specs.Expected.{unnamed_then, goes, refuses}
 use Rattle.dl_owl.specs.Steps.{refused_individual}

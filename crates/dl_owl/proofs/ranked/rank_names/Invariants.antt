@@ -1,5 +1,0 @@
-use Rattle.std.proofs.Common.{◌≡◌, ◌++◌, map, take, drop, slice_index}
-use Rattle.dl_owl.proofs.ranked.rank_names.Given as goal
-
-abbrev pub invariant-loop-name : goal.invariant-loop-name
-invariant-loop-name l = l.names ≡ map (slice_index l.ranks) (take l.name-index l.fn.names) ++ drop l.name-index l.fn.names
