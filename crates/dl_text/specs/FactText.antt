@@ -1,5 +1,5 @@
 -- The text of a fact: a triple of RDF 1.1 N-Triples, with single spaces.
-use Rattle.std.specs.Prelude.{ℕ, List, ◌∷◌, ◌++◌, codes}
+use Rattle.std.specs.Prelude.{List, ◌∷◌, ◌++◌, codes}
 use Rattle.dl_names.specs.Iris.{rdf_type}
 use Rattle.dl_names.specs.NameList.{Text}
 use Rattle.dl_terms.specs.declared.axiom.Fact.{Fact}

@@ -1,6 +1,4 @@
-use Rattle.std.proofs.Common.{◌∷◌, ◌++◌, ap, codes}
 use Rattle.std.specs.List.{flat_map}
-use Rattle.std.specs.Fmt.{decimal}
 use Rattle.dl_io.proofs.PrintLemmas.{prints_as, prints_failed, prints_then}
 use Rattle.dl_text.specs.AnswerText.{tuple_line}
 use Rattle.dl_text.proofs.LineLemmas.{count_printed}
