@@ -22,7 +22,7 @@ use std::sync::Arc;
 pub(crate) const MAX_WEIGHT: u64 = 65_536;
 
 /// The most rows that may be kept.
-pub(crate) const MAX_ROWS: u64 = 4_194_304;
+pub const MAX_ROWS: u64 = 4_194_304;
 
 /// The root of axioms, a signature and facts, in 1 to 64 shards: version 1, epoch 1, and no pin. Axioms and facts stand
 /// in any order and count once; axioms have no auxiliary role, and the signature, whose lists ascend strictly, has every

@@ -41,7 +41,7 @@ pub use dl_event::{
     Answer, AskFault, Edit, Event, Item, Looked, Pin, Placed, Refusal, Reply,
 };
 pub use fault::LoadFault;
-pub use first_root::load;
+pub use first_root::{MAX_ROWS, load};
 pub use next_root::step;
 pub use reads::Reads;
 pub use root::Root;

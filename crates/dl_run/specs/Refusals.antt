@@ -1,6 +1,11 @@
--- The texts of refusals, with their numbers; they are this project's own.
+-- The texts of refusals, with their numbers and the limits that these pass; they are this project's own.
 use Rattle.std.specs.Prelude.{ℕ, List, ◌++◌, codes}
 use Rattle.std.specs.Fmt.{decimal}
+use Rattle.dl_io.specs.Files.{max_bytes}
+use Rattle.dl_names.specs.NameList.{max_names}
+use Rattle.dl_hier.specs.Predicates.{max_predicates}
+use Rattle.dl_epoch.specs.Known.{max_weight}
+use Rattle.dl_row.specs.Shards.{max_rows}
 use Rattle.dl_owl.specs.Causes.{construct_words}
 use Rattle.dl_run.specs.declared.stop.InputFile.{InputFile}
 use Rattle.dl_run.specs.declared.stop.InputFile.TheVariants as file
@@ -15,7 +20,7 @@ file_word file.Query = codes "query"
 
 -- what is refused, in words. Bytes are counted from 0, lines and places from 1
 abbrev pub refusal_words : Refusal → List ℕ
-refusal_words (TooLong which) = file_word which ++ codes " longer than 268435456 bytes"
+refusal_words (TooLong which) = file_word which ++ (codes " longer than " ++ (decimal max_bytes ++ codes " bytes"))
 refusal_words (OntologySyntax at) = codes "ontology byte " ++ (decimal at ++ codes ": syntax")
 refusal_words (TooDeep at) = codes "ontology byte " ++ (decimal at ++ codes ": too deep")
 refusal_words (PrefixUnknown at) = codes "ontology byte " ++ (decimal at ++ codes ": unknown prefix")
@@ -35,10 +40,10 @@ refusal_words (TooLarge atoms existential head) =
     ++ (decimal atoms
     ++ (codes " atoms, "
     ++ (decimal existential ++ (codes " existential variables, " ++ (decimal head ++ codes " head places")))))
-refusal_words TooManyNames = codes "more than 4000000 names"
-refusal_words (TooHeavy weight) = codes "axiom weight " ++ (decimal weight ++ codes " over 65536")
-refusal_words (TooManyPredicates count) = decimal count ++ codes " predicates over 4096"
-refusal_words (TooManyFacts count) = decimal count ++ codes " facts over 4194304"
+refusal_words TooManyNames = codes "more than " ++ (decimal max_names ++ codes " names")
+refusal_words (TooHeavy weight) = codes "axiom weight " ++ (decimal weight ++ (codes " over " ++ decimal max_weight))
+refusal_words (TooManyPredicates count) = decimal count ++ (codes " predicates over " ++ decimal max_predicates)
+refusal_words (TooManyFacts count) = decimal count ++ (codes " facts over " ++ decimal max_rows)
 refusal_words (TooMany limit) = codes "more than " ++ (decimal limit ++ codes " answers")
 
 -- the line that says so

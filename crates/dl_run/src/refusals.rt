@@ -6,6 +6,11 @@ ghost use Rattle.dl_run.specs.Refusals.{file_word, refusal_words};
 ghost use Rattle.dl_run.specs.Pieces.{digits_of, text_of_words};
 
 use crate::stop::{InputFile, Refusal};
+use dl_core::MAX_ROWS;
+use dl_epoch::MAX_WEIGHT;
+use dl_hier::MAX_PREDICATES;
+use dl_io::MAX_BYTES;
+use dl_names::MAX_NAMES;
 use dl_owl::Construct;
 
 /// A refusal in words: its numbers, where it has them, and what stands before, between and behind them.
@@ -25,7 +30,7 @@ pub(crate) fn words_of(refusal: Refusal) -> Words
     ensures { text_of_words result ≡ refusal_words refusal }
 {
     match refusal {
-        Refusal::TooLong { file } => plain(file_word(file), " longer than 268435456 bytes"),
+        Refusal::TooLong { file } => too_long(file),
         Refusal::OntologySyntax { at } => in_ontology(at, ": syntax"),
         Refusal::TooDeep { at } => in_ontology(at, ": too deep"),
         Refusal::PrefixUnknown { at } => in_ontology(at, ": unknown prefix"),
@@ -43,10 +48,15 @@ pub(crate) fn words_of(refusal: Refusal) -> Words
             existential,
             head,
         } => too_large(atoms, existential, head),
-        Refusal::TooManyNames => plain("more than 4000000 names", ""),
-        Refusal::TooHeavy { weight } => counted("axiom weight ", weight, " over 65536"),
-        Refusal::TooManyPredicates { count } => counted("", count, " predicates over 4096"),
-        Refusal::TooManyFacts { count } => counted("", count, " facts over 4194304"),
+        Refusal::TooManyNames => counted("more than ", MAX_NAMES as u64, " names"),
+        Refusal::TooHeavy { weight } => over("axiom weight ", weight, " over ", MAX_WEIGHT),
+        Refusal::TooManyPredicates { count } => over(
+            "",
+            count,
+            " predicates over ",
+            MAX_PREDICATES as u64,
+        ),
+        Refusal::TooManyFacts { count } => over("", count, " facts over ", MAX_ROWS),
         Refusal::TooMany { limit } => counted("more than ", limit, " answers"),
     }
 }
@@ -81,11 +91,34 @@ fn pieces(
     }
 }
 
-/// Words without a number.
-fn plain(before: &'static str, behind: &'static str) -> Words
-    ensures { text_of_words result ≡ before.now ++ behind.now }
+/// The words of a file that is too long, with the length that it may have.
+fn too_long(file: InputFile) -> Words
+    ensures { text_of_words result ≡ refusal_words (Refusal.TooLong file) }
 {
-    pieces(before, None, "", behind)
+    Words {
+        before: file_word(file),
+        number: None,
+        between: " longer than ",
+        second: Some(MAX_BYTES as u64),
+        behind: " bytes",
+        third: None,
+        last: "",
+    }
+}
+
+/// The words of a number that is over its limit.
+fn over(before: &'static str, number: u64, between: &'static str, limit: u64) -> Words
+    ensures { text_of_words result ≡ before.now ++ (decimal number ++ (between.now ++ decimal limit)) }
+{
+    Words {
+        before,
+        number: Some(number),
+        between,
+        second: Some(limit),
+        behind: "",
+        third: None,
+        last: "",
+    }
 }
 
 /// Words around a number.
