@@ -1,4 +1,4 @@
--- The files of `answer` give one input at most, and what was read by places is one by numbers.
+-- The files of an input give one at most, and what was read by places is one by numbers.
 use Rattle.std.proofs.Common.{◌≡◌, ◌↔◌, is_some, ℕ, ◌<◌, ◌≤◌, List, [], ◌∷◌, ◌++◌, length, map, flat_map, get_or, slice_index, slice_get, Option, Some, None, subst, ap, sym, ◌∙◌, refl, arith, true≢false}
 use Rattle.std.specs.Ordering.{nat_cmp}
 use Rattle.std.specs.declared.cmp.Ordering.{Ordering}
@@ -16,11 +16,10 @@ use Rattle.dl_names.proofs.SameFrozenLemmas.{IsFrozen-same_names, IsFrozen-same_
 use Rattle.dl_terms.specs.Sets.{IsSetOf}
 use Rattle.dl_terms.specs.Order.{axiom_cmp, fact_cmp}
 use Rattle.dl_terms.specs.Occurring.{axiom_names, fact_names}
-use Rattle.dl_terms.specs.Renamed.{renamed_axiom, renamed_fact, renamed_query}
+use Rattle.dl_terms.specs.Renamed.{renamed_axiom, renamed_fact}
 use Rattle.dl_terms.specs.declared.axiom.Axiom.{Axiom}
 use Rattle.dl_terms.specs.declared.axiom.Fact.{Fact}
 use Rattle.dl_terms.specs.declared.axiom.Signature.{Signature}
-use Rattle.dl_terms.specs.declared.query.Query.{Query}
 use Rattle.dl_terms.proofs.AnswerLemmas.{IsSetOf-unique}
 use Rattle.dl_terms.proofs.OrderLemmas.{axioms_linear, facts_linear, numbers_linear}
 use Rattle.dl_terms.proofs.OccurringLemmas.{axiom_names-renamed, fact_names-renamed}
@@ -30,23 +29,22 @@ use Rattle.dl_owl.proofs.TokenLists.{one_value}
 use Rattle.dl_triples.specs.Reading.{IsValue}
 use Rattle.dl_triples.proofs.PlaceLemmas.{read_grows}
 use Rattle.dl_triples.proofs.ValueLemmas.{one_value as one_data}
-use Rattle.dl_run.specs.Input.{Load, IsNumberOf, AreRead, AreInput}
-use Rattle.dl_query.specs.Queries.{IsValue as IsQueryValue}
-use Rattle.dl_query.proofs.ResultLemmas.{value-one}
-use Rattle.dl_run.specs.Asked.{load_of, IsNumbered}
+use Rattle.dl_core.specs.History.{Load}
+use Rattle.dl_run.specs.Input.{KnowledgeBase, IsNumberOf, AreRead, IsNumbered, AreInput}
+use Rattle.dl_run.specs.Numbered.{ArePlaced}
+use Rattle.dl_run.specs.ThirdFile.{ThirdFile}
 use Rattle.dl_epoch.specs.Predicates.{axiom_classes, axiom_properties, fact_classes, fact_properties}
 use Rattle.dl_run.specs.Signature.{IsSignatureOf}
-use Rattle.dl_run.specs.declared.answer.Asked.{Asked}
-use Rattle.dl_triples.specs.declared.reading.Triples.{Triples}
+use Rattle.dl_run.proofs.ThirdLemmas.{IsDetermined}
 use Rattle.dl_hier.proofs.MemberLemmas.{Contains-map}
 
 -- ---- one input
 
 -- ontology and data are read in one way
-pub AreRead-unique : {o d q : List ℕ} {document other : Document} {triples others : List Fact} {skipped also : ℕ} {names later : List Text}
-    → AreRead o d q document triples skipped names → AreRead o d q other others also later
+pub AreRead-unique : {o d : List ℕ} {document other : Document} {triples others : List Fact} {skipped also : ℕ} {names later : List Text}
+    → AreRead o d document triples skipped names → AreRead o d other others also later
     → (document ≡ other) × (triples ≡ others) × (skipped ≡ also) × (names ≡ later)
-AreRead-unique {o} {d} {q} {document} {other} {triples} {others} {skipped} {also} {names} {later} one two =
+AreRead-unique {o} {d} {document} {other} {triples} {others} {skipped} {also} {names} {later} one two =
     let first = one_value o prologue [] document other one.first two.first one.is_ontology two.is_ontology in
     let then =
     one_data d two.first triples others skipped also names later (subst (λ m. IsValue d m triples skipped names) first.1 one.is_data) two.is_data
@@ -60,14 +58,13 @@ IsNumberOf-unique names ascending text None (Some m) h k = absurd (true≢false 
 IsNumberOf-unique names ascending text (Some n) None h k = absurd (true≢false (sym (has_name-slice_get names text n h) ∙ k))
 IsNumberOf-unique names ascending text (Some n) (Some m) h k = ap Some (number-unique names ascending n m text h k)
 
-same_load : (l m : Load) → l.names ≡ m.names → l.axioms ≡ m.axioms → l.facts ≡ m.facts → l.signature ≡ m.signature → l.skipped ≡ m.skipped → l.nothing ≡ m.nothing → l ≡ m
-same_load l m a b c d e f = λ i. record {
-  names = a i;
-  axioms = b i;
-  facts = c i;
-  signature = d i;
-  skipped = e i;
-  nothing = f i;
+same_base : (a b : KnowledgeBase) → a.names ≡ b.names → a.load.axioms ≡ b.load.axioms → a.load.facts ≡ b.load.facts → a.load.signature ≡ b.load.signature
+    → a.load.shards ≡ b.load.shards → a.skipped ≡ b.skipped → a.nothing ≡ b.nothing → a ≡ b
+same_base a b names axioms facts signature shards skipped nothing = λ i. record {
+  names = names i;
+  load = record { axioms = axioms i; signature = signature i; facts = facts i; shards = shards i };
+  skipped = skipped i;
+  nothing = nothing i;
 }
 
 -- the same axioms, facts and declared names have one signature
@@ -90,31 +87,39 @@ signature_from {axioms} {others} {facts} {also} {classes} {roles} {cs} {rs} {sig
     subst (λ (p : (List Axiom × List Fact) × (List ℕ × List ℕ)). IsSignatureOf p.0.0 p.0.1 p.1.0 p.1.1 signature)
     (λ i. ((a i, b i), (c i, d i)))
 
--- the files give one input at most
-pub AreInput-unique : {o d q : List ℕ} {load other : Load} {asked also : Query}
-    → AreInput o d q load asked → AreInput o d q other also → (load ≡ other) × (asked ≡ also)
-AreInput-unique {o} {d} {q} {load} {other} {asked} {also} one two =
-    let read = AreRead-unique one.are_read two.are_read in
-    let last = value-one q two.met_before one.query_read two.query_read one.met two.met
-    (subst (λ m. IsQueryValue q m one.query_read one.met) read.3 one.is_query) two.is_query in
-    let frozen = subst (λ m. IsFrozen m load.names one.ranks) last.1 one.is_frozen in
-    let names = IsFrozen-same_names two.met load.names other.names one.ranks two.ranks frozen two.is_frozen in
-    let ranks = IsFrozen-same_ranks two.met load.names other.names one.ranks two.ranks frozen two.is_frozen in
-    let renamed : map (renamed_axiom (slice_index one.ranks)) one.document.axioms ≡ map (renamed_axiom (slice_index two.ranks)) two.document.axioms =
-    λ i. map (renamed_axiom (slice_index (ranks i))) (read.0 i).axioms in
-    let joined : map (renamed_fact (slice_index one.ranks)) (one.triples ++ one.document.facts) ≡ map (renamed_fact (slice_index two.ranks)) (two.triples ++ two.document.facts) =
-    λ i. map (renamed_fact (slice_index (ranks i))) (read.1 i ++ (read.0 i).facts) in
-    let axioms = IsSetOf-unique axioms_linear _ _ _ (subst (IsSetOf axiom_cmp load.axioms) renamed one.is_axioms) two.is_axioms in
-    let facts = IsSetOf-unique facts_linear _ _ _ (subst (IsSetOf fact_cmp load.facts) joined one.is_facts) two.is_facts in
+-- what was read is one knowledge base, where that has so many shards
+one_base : {document other : Document} {triples others : List Fact} {skipped also : ℕ} {met later : List Text} {ranks more : List ℕ} {base second : KnowledgeBase}
+    → document ≡ other → triples ≡ others → skipped ≡ also → met ≡ later → base.load.shards ≡ second.load.shards
+    → IsNumbered document triples skipped met ranks base → IsNumbered other others also later more second → (base ≡ second) × (ranks ≡ more)
+one_base {document} {other} {triples} {others} {skipped} {also} {met} {later} {ranks} {more} {base} {second} same_document same_triples same_skipped same_met shards one two =
+    let frozen = subst (λ m. IsFrozen m base.names ranks) same_met one.is_frozen in
+    let names = IsFrozen-same_names later base.names second.names ranks more frozen two.is_frozen in
+    let same_ranks = IsFrozen-same_ranks later base.names second.names ranks more frozen two.is_frozen in
+    let renamed : map (renamed_axiom (slice_index ranks)) document.axioms ≡ map (renamed_axiom (slice_index more)) other.axioms =
+    λ i. map (renamed_axiom (slice_index (same_ranks i))) (same_document i).axioms in
+    let joined : map (renamed_fact (slice_index ranks)) (triples ++ document.facts) ≡ map (renamed_fact (slice_index more)) (others ++ other.facts) =
+    λ i. map (renamed_fact (slice_index (same_ranks i))) (same_triples i ++ (same_document i).facts) in
+    let axioms = IsSetOf-unique axioms_linear _ _ _ (subst (IsSetOf axiom_cmp base.load.axioms) renamed one.is_axioms) two.is_axioms in
+    let facts = IsSetOf-unique facts_linear _ _ _ (subst (IsSetOf fact_cmp base.load.facts) joined one.is_facts) two.is_facts in
     let signature =
-    one_signature axioms facts (λ i. map (slice_index (ranks i)) (read.0 i).classes) (λ i. map (slice_index (ranks i)) (read.0 i).roles)
+    one_signature axioms facts (λ i. map (slice_index (same_ranks i)) (same_document i).classes) (λ i. map (slice_index (same_ranks i)) (same_document i).roles)
     one.is_signature two.is_signature in
     let nothing =
-    IsNumberOf-unique other.names two.is_frozen.ascending owl_nothing load.nothing other.nothing
-    (subst (λ n. IsNumberOf n owl_nothing load.nothing) names one.is_nothing) two.is_nothing
-    in (
-      same_load load other names axioms facts signature read.2 nothing,
-      one.is_asked ∙ ap (λ r. renamed_query (slice_index r) one.query_read) ranks ∙ ap (renamed_query (slice_index two.ranks)) last.0 ∙ sym two.is_asked,
+    IsNumberOf-unique second.names two.is_frozen.ascending owl_nothing base.nothing second.nothing
+    (subst (λ n. IsNumberOf n owl_nothing base.nothing) names one.is_nothing) two.is_nothing
+    in
+    (same_base base second names axioms facts signature shards (one.is_skipped ∙ same_skipped ∙ sym two.is_skipped) nothing, same_ranks)
+
+-- the files give one input at most
+pub AreInput-unique : {third : ThirdFile} {shards : ℕ} {o d l : List ℕ} {base other : KnowledgeBase} {value also : third.Value} → IsDetermined third
+    → AreInput third shards o d l base value → AreInput third shards o d l other also → (base ≡ other) × (value ≡ also)
+AreInput-unique {third} {shards} {o} {d} {l} {base} {other} {value} {also} determined one two =
+    let read = AreRead-unique one.are_read two.are_read in
+    let last = determined.one_value l two.met_before one.read two.read one.met two.met
+    (subst (λ m. third.IsValue l m one.read one.met) read.3 one.is_third) two.is_third in
+    let same = one_base read.0 read.1 read.2 last.1 (one.are_shards ∙ sym two.are_shards) one.is_base two.is_base in (
+      same.0,
+      one.is_value ∙ ap (λ r. third.renamed (slice_index r) one.read) same.1 ∙ ap (third.renamed (slice_index two.ranks)) last.0 ∙ sym two.is_value,
     )
 
 -- ---- sets by numbers
@@ -178,25 +183,15 @@ pub data_grows : {bytes : List ℕ} {names after : List Text} {triples : List Fa
     → length names ≤ length after
 data_grows {names = names} {after = after} value = length-Extends names after (read_grows value.read)
 
--- what was read by places, numbered, is the input that the bytes give
-pub input_from : (o d q : List ℕ) (document : Document) (triples : Triples) (before met : List Text) (query : Query) (asked : Asked)
-    → AreRead o d q document triples.facts triples.skipped before → IsQueryValue q before query met
-    → IsNumbered met document triples query asked → AreInput o d q (load_of asked) asked.query
-input_from o d q document triples before met query asked read value numbered = record {
-  document = document;
-  triples = triples.facts;
-  query_read = query;
-  met_before = before;
-  met = met;
-  are_read = rw numbered.is_skipped read;
-  is_query = value;
-  ranks = numbered.ranks;
-  is_frozen = numbered.is_frozen;
-  is_axioms = numbered.is_axioms;
-  is_facts = numbered.is_facts;
-  is_signature = numbered.is_signature;
-  is_asked = numbered.is_query;
-  is_nothing = numbered.is_nothing;
+-- what is placed stays so
+pub ArePlaced-later : (n m : ℕ) (document : Document) (triples : List Fact) → n ≤ m → ArePlaced n document triples → ArePlaced m document triples
+ArePlaced-later n m document triples more placed = record {
+  no_auxiliaries = placed.no_auxiliaries;
+  axioms = placed_later axiom_names n m document.axioms more placed.axioms;
+  facts = placed_later fact_names n m document.facts more placed.facts;
+  classes = numbers_later n m document.classes more placed.classes;
+  roles = numbers_later n m document.roles more placed.roles;
+  triples = placed_later fact_names n m triples more placed.triples;
 }
 
 -- the set of the facts of two lists, by ranks

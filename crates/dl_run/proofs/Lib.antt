@@ -3,10 +3,12 @@ pub mod WordLemmas
 pub mod SignatureLemmas
 pub mod StoreLemmas
 pub mod NamedLemmas
+pub mod ThirdLemmas
 pub mod InputLemmas
 pub mod WrongLemmas
 pub mod OutputLemmas
 pub mod EndingLemmas
 pub mod FileLemmas
-pub mod CommandLemmas
+pub mod AnswerLemmas
+pub mod ProgramLemmas
 pub mod ToldLemmas

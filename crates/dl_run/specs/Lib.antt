@@ -3,6 +3,7 @@ pub mod Refusals
 pub mod Texts
 pub mod Pieces
 pub mod Signature
+pub mod ThirdFile
 pub mod Input
 pub mod Store
 pub mod Wrong
@@ -15,5 +16,5 @@ pub mod Answered
 pub mod Options
 pub mod Forms
 pub mod Stops
-pub mod Asked
+pub mod Numbered
 pub mod Codes

@@ -6,8 +6,8 @@ use Rattle.dl_terms.specs.Reply.{Reply, found, inconsistent}
 use Rattle.dl_terms.specs.Table.{Table}
 use Rattle.dl_terms.specs.declared.axiom.Axiom.{Axiom}
 use Rattle.dl_run.specs.Output.{answers_text, broken_text, inconsistent_text}
-use Rattle.dl_run.specs.declared.told.Told.{Told}
-use Rattle.dl_run.specs.declared.told.Told.TheVariants.{Found, Inconsistent}
+use Rattle.dl_run.specs.declared.answers.Told.{Told}
+use Rattle.dl_run.specs.declared.answers.Told.TheVariants.{Found, Inconsistent}
 
 -- the names of answers, where some are told, are below a count
 abbrev pub HasNamesBelow : ℕ → Told → Type 0

@@ -1,6 +1,7 @@
 // Laws of the definitions.
 ghost use Rattle.std.specs.Prelude.{◌≡◌, ℕ, List};
-ghost use Rattle.dl_run.specs.Defined.{AnswerPrints, Prints};
+ghost use Rattle.dl_run.specs.Answered.{AnswerPrints};
+ghost use Rattle.dl_run.specs.Defined.{Prints};
 ghost use Rattle.dl_run.specs.Words.{Form, HasForm};
 ghost use Rattle.dl_run.specs.declared.status.Status.{Status};
 

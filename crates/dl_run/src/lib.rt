@@ -2,22 +2,24 @@
 #![tactic(auto)]
 
 mod answer;
-mod command;
+mod answers;
+mod base;
+mod files;
 mod input;
 mod laws;
 mod output;
+mod program;
 mod refusals;
-mod replies;
 mod sets;
 mod signature;
 mod status;
 mod stop;
 mod store;
 mod texts;
-mod told;
 mod words;
 
-pub use command::{answer_command, quest, without_memory};
+pub use answer::answer_command;
 pub use laws::{outputs_are_determined, words_have_one_form_at_most};
+pub use program::{quest, without_memory};
 pub use status::Status;
 pub use words::{AnswerWords, Form, GenWords, RunWords, form_of};

@@ -9,11 +9,10 @@ ghost use Rattle.dl_run.specs.Pieces.{digits_of, opening, closing, opened};
 ghost use Rattle.dl_run.specs.Refusals.{refusal_text};
 ghost use Rattle.dl_run.specs.Told.{HasNamesBelow, told_text};
 
-use crate::answer::Answers;
+use crate::answers::{Answers, Told};
 use crate::refusals::words_of;
 use crate::stop::{Refusal, Stop};
 use crate::texts::{NO_MEMORY, READ_FAULT};
-use crate::told::Told;
 use dl_io::{Failed, GatheringSink, Sink};
 use dl_names::Names;
 use dl_terms::Tuples;

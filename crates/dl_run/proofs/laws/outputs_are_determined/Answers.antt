@@ -1,4 +1,5 @@
-use Rattle.dl_run.proofs.CommandLemmas.{one_output, one_output_of_words}
+use Rattle.dl_run.proofs.AnswerLemmas.{one_output}
+use Rattle.dl_run.proofs.ProgramLemmas.{one_output_of_words}
 use Rattle.dl_run.proofs.laws.outputs_are_determined.Goals as goal
 
 pub returns-clause-answer : goal.returns-clause-answer
