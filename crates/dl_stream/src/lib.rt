@@ -2,7 +2,6 @@
 #![tactic(auto)]
 
 mod answers;
-mod axiom_ranks;
 mod cut;
 mod draws;
 mod edits;

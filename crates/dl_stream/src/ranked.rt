@@ -1,14 +1,11 @@
 // Places of names in streams replaced by their ranks.
 ghost use Rattle.std.specs.Prelude.{◌≡◌, ◌<◌, length, map, slice_index, All};
-ghost use Rattle.dl_terms.specs.Occurring.{fact_names};
-ghost use Rattle.dl_terms.specs.Renamed.{renamed_fact};
 ghost use Rattle.dl_stream.specs.Commands.{ItemBelow, EventBelow, CommandBelow, IsFit, renamed_item, renamed_edit, renamed_event, renamed_command};
 
-use crate::axiom_ranks::rank_axiom;
 use crate::streams::{Command, Streams};
 use dl_event::{Edit, Event, Item};
 use dl_names::Ranks;
-use dl_terms::{Fact, List};
+use dl_terms::List;
 
 impl Streams {
     /// Replaces each place of a name by its rank, which is the number of the name. The places are ones that
@@ -53,7 +50,7 @@ fn rank_command(ranks: &Ranks, command: &mut Command)
 {
     match command {
         Command::Put(event) => rank_event(ranks, event),
-        Command::Ask { query, .. } => dl_query::ranked(query, ranks),
+        Command::Ask { query, .. } => ranks.rank_query(query),
     }
 }
 
@@ -87,26 +84,9 @@ fn rank_item(ranks: &Ranks, item: &mut Item)
     ensures { item.new ≡ renamed_item (slice_index ranks.now) item.old }
 {
     match item {
-        Item::Axiom(stated) => rank_axiom(ranks, stated),
-        Item::Fact(fact) => *fact = ranked_fact(ranks, *fact),
+        Item::Axiom(stated) => ranks.rank_axiom(stated),
+        Item::Fact(fact) => *fact = ranks.ranked_fact(*fact),
         Item::Class(class) => *class = ranks.of(*class),
         Item::Property(property) => *property = ranks.of(*property),
-    }
-}
-
-fn ranked_fact(ranks: &Ranks, fact: Fact) -> Fact
-    requires { All (λ place. place < length ranks.now) (fact_names fact) }
-    ensures { result ≡ renamed_fact (slice_index ranks.now) fact }
-{
-    match fact {
-        Fact::Is { class, who } => Fact::Is {
-            class: ranks.of(class),
-            who: ranks.of(who),
-        },
-        Fact::Link { role, from, to } => Fact::Link {
-            role: ranks.of(role),
-            from: ranks.of(from),
-            to: ranks.of(to),
-        },
     }
 }

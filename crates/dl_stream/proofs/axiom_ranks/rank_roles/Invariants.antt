@@ -1,6 +1,0 @@
-use Rattle.std.proofs.Common.{◌≡◌, ◌++◌, map, take, drop, slice_index}
-use Rattle.dl_terms.specs.Renamed.{renamed_role}
-use Rattle.dl_stream.proofs.axiom_ranks.rank_roles.Given as goal
-
-abbrev pub invariant-loop-role : goal.invariant-loop-role
-invariant-loop-role l = l.roles ≡ map (renamed_role (slice_index l.ranks)) (take l.role-index l.fn.roles) ++ drop l.role-index l.fn.roles
