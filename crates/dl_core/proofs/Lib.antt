@@ -17,7 +17,6 @@ pub mod FewLemmas
 pub mod KnownLemmas
 pub mod RuleLemmas
 pub mod ShardLemmas
-pub mod OpenLemmas
 pub mod HeldLemmas
 pub mod LookLemmas
 pub mod RefillLemmas
@@ -44,5 +43,3 @@ pub mod GrowthLemmas
 pub mod FactSignatureLemmas
 pub mod PinnedShardLemmas
 pub mod PinnedEpochLemmas
-pub mod InUseLemmas
-pub mod ScratchLemmas

@@ -5,7 +5,6 @@ pub mod History
 pub mod Root
 pub mod Next
 pub mod Legal
-pub mod Examples
 pub mod Held
 pub mod Loading
 pub mod Decided
@@ -13,4 +12,3 @@ pub mod Changes
 pub mod Committing
 pub mod Steps
 pub mod Maintaining
-pub mod Scratch

@@ -16,25 +16,21 @@ mod fault;
 mod first_root;
 mod found;
 mod held;
-pub mod laws;
 mod limits;
 mod loaded_shards;
 mod look;
 mod maintain;
-pub mod maintenance_laws;
 mod new_rows;
 mod next_root;
 mod ontology;
 mod opening;
 mod pins;
-pub mod reader_laws;
 mod reads;
 mod reclaim;
 mod refilled;
 mod root;
 mod root_reads;
 mod sets;
-pub mod worked_examples;
 
 pub use book::Book;
 pub use dl_event::{

@@ -1,7 +1,7 @@
 //! Which transcripts are legal, on small loads.
 ghost use Rattle.std.specs.Prelude.{ℕ};
 ghost use Rattle.std.specs.declared.option.Option.TheVariants.{None};
-ghost use Rattle.dl_core.specs.Examples.{by_name};
+ghost use Rattle.dl_core.specs.Next.{by_name};
 ghost use Rattle.dl_stream.specs.Transcript.{IsLegalTranscript};
 ghost use Rattle.dl_stream.specs.Examples.{b_is_an_a, commit_first, pin_first, at_one_place, nothing_loaded, refused};
 

@@ -1,5 +1,0 @@
-use Rattle.dl_core.proofs.LoadLemmas.{load_exists, one_load}
-use Rattle.dl_core.proofs.laws.lists_are_one_load.Goals as goal
-
-pub returns : goal.returns
-returns c = record { exists = load_exists; one = one_load }

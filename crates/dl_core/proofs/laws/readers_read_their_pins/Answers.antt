@@ -1,5 +1,0 @@
-use Rattle.dl_core.proofs.ReaderLemmas.{reader_reads}
-use Rattle.dl_core.proofs.laws.readers_read_their_pins.Goals as goal
-
-pub returns : goal.returns
-returns c = reader_reads
