@@ -19,9 +19,9 @@ use Rattle.dl_row.specs.Lists.{count, Ascends}
 use Rattle.dl_row.specs.Rows.{fact_of, is_fact, visible, rows_for, open_end}
 use Rattle.dl_row.specs.declared.row.Row.{Row}
 use Rattle.dl_row.proofs.CountLemmas.{same_itself}
-use Rattle.dl_core.specs.Sets.{has, with_item, with_items}
-use Rattle.dl_core.specs.Edits.{names_fact, facts_with, edited_facts}
-use Rattle.dl_core.specs.Decided.{Decide}
+use Rattle.dl_edits.specs.Sets.{has, with_item, with_items}
+use Rattle.dl_edits.specs.Edits.{names_fact, facts_with, edited_facts}
+use Rattle.dl_edits.specs.Decided.{Decide}
 use Rattle.dl_core.specs.History.{facts_at}
 use Rattle.dl_core.specs.Root.{Root, IsLive, IsRowAt, epochs, shard, stands_in}
 use Rattle.dl_core.specs.Next.{IsReady, root_facts, new_facts}
@@ -30,16 +30,17 @@ use Rattle.dl_core.specs.Changes.{first_end, shard_of, StandsAt, turns, turned, 
 use Rattle.dl_event.specs.declared.event.Item.{Item}
 use Rattle.dl_event.specs.declared.event.Item.TheVariants as item
 use Rattle.dl_event.specs.declared.event.Edit.{Edit}
-use Rattle.dl_core.proofs.CountLemmas.{count-filter_le}
+use Rattle.dl_edits.proofs.CountLemmas.{count-filter_le}
 use Rattle.dl_core.proofs.CommitLemmas.{le_true, lt_true}
-use Rattle.dl_core.proofs.EditLemmas.{edited_facts_once, edits_decide}
-use Rattle.dl_core.proofs.FactLemmas.{there_counts, visible_once, visible_say}
+use Rattle.dl_edits.proofs.EditLemmas.{edited_facts_once, edits_decide}
+use Rattle.dl_core.proofs.FactLemmas.{visible_once, visible_say}
+use Rattle.dl_edits.proofs.CountLemmas.{there_counts}
 use Rattle.dl_core.proofs.FoundLemmas.{Contains-filter_of}
-use Rattle.dl_core.proofs.OrderedLemmas.{InOrder-filter}
+use Rattle.dl_edits.proofs.OrderedLemmas.{InOrder-filter}
 use Rattle.dl_core.proofs.PinLemmas.{Contains-filter}
-use Rattle.dl_core.proofs.AscendLemmas.{strictly_sorted, with_item-ascends}
-use Rattle.dl_core.proofs.SetLemmas.{has_there, there_has}
-use Rattle.dl_core.proofs.SaidLemmas.{named_decided, unnamed_stays}
+use Rattle.dl_edits.proofs.AscendLemmas.{strictly_sorted, with_item-ascends}
+use Rattle.dl_edits.proofs.SetLemmas.{has_there, there_has}
+use Rattle.dl_edits.proofs.SaidLemmas.{named_decided, unnamed_stays}
 
 -- ---- the open row of a fact
 

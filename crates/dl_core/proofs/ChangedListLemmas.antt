@@ -8,7 +8,7 @@ use Rattle.dl_row.specs.Lists.{count, InOrder, last_where, first_some}
 use Rattle.dl_migrate.specs.Lists.{change_first, drop_first}
 use Rattle.dl_migrate.proofs.ListLemmas.{count_parts, length_parts}
 use Rattle.dl_core.proofs.EpochLemmas.{some_none, some_some}
-use Rattle.dl_core.proofs.OrderedLemmas.{each-filter, each-push, each-last}
+use Rattle.dl_edits.proofs.OrderedLemmas.{each-filter, each-push, each-last}
 
 -- ---- each item
 

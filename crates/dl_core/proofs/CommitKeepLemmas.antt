@@ -12,27 +12,28 @@ use Rattle.dl_terms.specs.declared.axiom.Fact.TheVariants.{Is, Link}
 use Rattle.dl_terms.specs.declared.axiom.Signature.{Signature}
 use Rattle.dl_terms.proofs.OrderLemmas.{axioms_linear, facts_linear, numbers_linear, lists_linear}
 use Rattle.dl_terms.proofs.MemberLemmas.{both_true, All-Contains}
-use Rattle.dl_core.specs.Sets.{has, IsOnce}
+use Rattle.dl_edits.specs.Sets.{has, IsOnce}
 use Rattle.dl_normal.specs.Weight.{total_weight}
-use Rattle.dl_core.specs.Names.{predicates}
-use Rattle.dl_core.specs.Edits.{edited_axioms, edited_facts, edited_signature}
+use Rattle.dl_edits.specs.Names.{predicates}
+use Rattle.dl_edits.specs.Edits.{edited_axioms, edited_facts, edited_signature}
 use Rattle.dl_core.specs.History.{Load, Entry, accepted, axioms_at, facts_at, signature_at, after_commits, commits_to, pinned_by, pin_of}
 use Rattle.dl_row.specs.Rows.{Epoch, epoch_of, fact_of, rows_for, covering, row_cmp, open_end}
-use Rattle.dl_core.specs.Root.{Root, epochs, max_epochs, IsLive, IsNumbered, IsPart, knows, AreKnown, IsRowAt, AreEpochs, RowsSay, ReadsAs, StandsFor}
+use Rattle.dl_core.specs.Root.{Root, epochs, max_epochs, IsLive, IsNumbered, IsRowAt, AreEpochs, RowsSay, ReadsAs, StandsFor}
+use Rattle.dl_edits.specs.Signatures.{IsPart, knows, AreKnown}
 use Rattle.dl_epoch.specs.Known.{max_weight}
 use Rattle.dl_hier.specs.Predicates.{max_predicates}
 use Rattle.dl_row.specs.Shards.{max_rows}
 use Rattle.dl_core.specs.Next.{Numbering, IsNumbering, IsReady, epoch_from, row_for, same_signature, opens, root_facts, ended, ended_at, is_among, new_facts, committed_epoch, committed_older, committed_rows, committed, commit_refused}
 use Rattle.dl_row.specs.declared.row.Row.{Row}
 use Rattle.dl_event.specs.declared.event.Edit.{Edit}
-use Rattle.dl_core.proofs.CountLemmas.{one_or_none}
+use Rattle.dl_edits.proofs.CountLemmas.{one_or_none}
 use Rattle.dl_row.proofs.CountLemmas.{same_is}
-use Rattle.dl_core.proofs.SetLemmas.{has_there}
+use Rattle.dl_edits.proofs.SetLemmas.{has_there}
 use Rattle.dl_core.proofs.FactLemmas.{visible_are, visible_once, visible_say, visible_known}
-use Rattle.dl_core.proofs.EditLemmas.{edited_facts_same, edited_facts_once, edited_signature_grows, edited_signature_once, edited_known, part_itself, part_trans}
+use Rattle.dl_edits.proofs.EditLemmas.{edited_facts_same, edited_facts_once, edited_signature_grows, edited_signature_once, edited_known, part_itself, part_trans}
 use Rattle.dl_core.proofs.CommitLemmas.{le_true, le_false, committed_say, committed_keep}
 use Rattle.dl_row.specs.Laws.{row_total}
-use Rattle.dl_core.proofs.OrderedLemmas.{below_last, All-ordered, InOrder-push}
+use Rattle.dl_edits.proofs.OrderedLemmas.{below_last, All-ordered, InOrder-push}
 use Rattle.dl_row.proofs.OrderedLemmas.{ordered-ascends, length-ordered}
 use Rattle.dl_core.proofs.EpochLemmas.{some_none, some_some, find-append_found, covering-push, covering-push_later, last_is_found, row_for_stands, same_fact, current_numbered}
 use Rattle.dl_core.proofs.HistoryLemmas.{version-commit, commits_to-earlier, new_version, pin-push}

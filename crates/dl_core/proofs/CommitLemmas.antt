@@ -8,12 +8,12 @@ use Rattle.dl_terms.specs.declared.axiom.Fact.{Fact}
 use Rattle.dl_terms.specs.declared.axiom.Fact.TheVariants.{Is, Link}
 use Rattle.dl_terms.proofs.OrderLemmas.{facts_linear}
 use Rattle.dl_row.specs.Lists.{count}
-use Rattle.dl_core.specs.Sets.{has, IsOnce}
+use Rattle.dl_edits.specs.Sets.{has, IsOnce}
 use Rattle.dl_row.specs.Rows.{Epoch, fact_of, is_fact, visible, rows_for, row_cmp, open_end}
 use Rattle.dl_core.specs.Root.{IsRowAt, RowsSay}
 use Rattle.dl_core.specs.Next.{is_among, ended, ended_at, row_for, new_facts, committed_rows}
 use Rattle.dl_row.specs.declared.row.Row.{Row}
-use Rattle.dl_core.proofs.CountLemmas.{and_true, count-map, count-agree, count-same, count-none, count-and, count-filter, count_once}
+use Rattle.dl_edits.proofs.CountLemmas.{and_true, count-map, count-agree, count-same, count-none, count-and, count-filter, count_once}
 use Rattle.dl_row.proofs.CountLemmas.{count-append, count-ordered, same_is}
 
 -- ---- tests of numbers

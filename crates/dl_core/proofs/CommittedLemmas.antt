@@ -21,9 +21,10 @@ use Rattle.dl_row.proofs.CountLemmas.{count-append, count-ordered, same_is}
 use Rattle.dl_row.proofs.OrderedLemmas.{length-ordered, InOrder_at}
 use Rattle.dl_epoch.specs.Frozen.{Frozen, IsFrozen, from_version}
 use Rattle.dl_epoch.specs.Covering.{Kept, epoch_in, AreEntries}
-use Rattle.dl_core.specs.Sets.{has}
-use Rattle.dl_core.specs.Edits.{edited_axioms, edited_signature, edited_facts}
-use Rattle.dl_core.specs.Root.{Root, IsLive, IsRowAt, StandsFor, AreKnown, knows, epochs, shard, stands_in, rows_in}
+use Rattle.dl_edits.specs.Sets.{has}
+use Rattle.dl_edits.specs.Edits.{edited_axioms, edited_signature, edited_facts}
+use Rattle.dl_core.specs.Root.{Root, IsLive, IsRowAt, StandsFor, epochs, shard, stands_in, rows_in}
+use Rattle.dl_edits.specs.Signatures.{AreKnown, knows}
 use Rattle.dl_migrate.specs.Tallies.{carries}
 use Rattle.dl_core.specs.Next.{Numbering, GoesByRule, IsReady, epoch_from, row_for, root_facts, ended, ended_at, is_among, opens, same_signature, committed, committed_epoch, committed_older}
 use Rattle.dl_core.specs.Loading.{IsFactIn, AreParts}
@@ -37,14 +38,14 @@ use Rattle.dl_event.specs.declared.reply.Reply.{Reply}
 use Rattle.dl_event.specs.declared.reply.Reply.TheVariants as reply
 use Rattle.dl_core.specs.declared.ontology.Ontology.{Ontology}
 use Rattle.dl_core.proofs.CommitKeepLemmas.{not_refused, committed_keeps}
-use Rattle.dl_core.proofs.CountLemmas.{count-map, count-same, count-none, count-agree}
-use Rattle.dl_core.proofs.EditLemmas.{edited_known}
+use Rattle.dl_edits.proofs.CountLemmas.{count-map, count-same, count-none, count-agree}
+use Rattle.dl_edits.proofs.EditLemmas.{edited_known}
 use Rattle.dl_core.proofs.EpochLemmas.{row_epoch, find_is}
 use Rattle.dl_core.proofs.FactLemmas.{visible_say, visible_known}
 use Rattle.dl_core.proofs.HeldLemmas.{shards_are}
-use Rattle.dl_core.proofs.OrderedLemmas.{each-last}
+use Rattle.dl_edits.proofs.OrderedLemmas.{each-last}
 use Rattle.dl_core.proofs.RuleLemmas.{rule_is_numbering, rule_exists}
-use Rattle.dl_core.proofs.SetLemmas.{has_there, there_has}
+use Rattle.dl_edits.proofs.SetLemmas.{has_there, there_has}
 use Rattle.dl_core.proofs.ShardLemmas.{shard-committed, filter-map}
 
 -- ---- rows of each epoch

@@ -17,7 +17,7 @@ use Rattle.dl_epoch.specs.Known.{IsSignature, IsAxiomIn, ArePredicatesFew, max_w
 use Rattle.dl_normal.specs.Weight.{total_weight}
 use Rattle.dl_epoch.specs.Frozen.{IsFrozen, from_version}
 use Rattle.dl_epoch.specs.Covering.{Kept, epoch_in}
-use Rattle.dl_core.specs.Edits.{edited_axioms, edited_signature}
+use Rattle.dl_edits.specs.Edits.{edited_axioms, edited_signature}
 use Rattle.dl_core.specs.Root.{Root, epochs, shard}
 use Rattle.dl_core.specs.Next.{Numbering, GoesByRule, epoch_from, ended, committed_epoch}
 use Rattle.dl_core.specs.Held.{IsBookOf, CountsRows}
@@ -25,10 +25,10 @@ use Rattle.dl_core.specs.Changes.{AreGone}
 use Rattle.dl_core.specs.Committing.{IsAccepted, IsBuildable, IsNewEntry, AreShardsAfter, AreEntriesAfter}
 use Rattle.dl_core.specs.declared.book.Book.{Book}
 use Rattle.dl_core.specs.declared.ontology.Ontology.{Ontology}
-use Rattle.dl_core.proofs.AscendLemmas.{edited_axioms-sorted, edited_signature-sorted}
+use Rattle.dl_edits.proofs.AscendLemmas.{edited_axioms-sorted, edited_signature-sorted}
 use Rattle.dl_core.proofs.CommitKeepLemmas.{not_refused}
-use Rattle.dl_core.proofs.FewLemmas.{predicates_few}
-use Rattle.dl_core.proofs.KnownLemmas.{edited_axioms-known, edited_axioms-plain}
+use Rattle.dl_edits.proofs.FewLemmas.{predicates_few}
+use Rattle.dl_edits.proofs.KnownLemmas.{edited_axioms-known, edited_axioms-plain}
 use Rattle.dl_core.proofs.RuleLemmas.{ruled_epoch}
 
 -- ---- the ontology

@@ -8,17 +8,18 @@ use Rattle.dl_terms.specs.declared.axiom.Fact.{Fact}
 use Rattle.dl_terms.specs.declared.axiom.Fact.TheVariants.{Is, Link}
 use Rattle.dl_terms.proofs.OrderLemmas.{numbers_linear}
 use Rattle.dl_terms.proofs.MemberLemmas.{Contains-first, Contains-later, All-Contains}
-use Rattle.dl_core.specs.Sets.{has, IsOnce}
+use Rattle.dl_edits.specs.Sets.{has, IsOnce}
 use Rattle.dl_row.specs.Lists.{count, last_where, first_some, InOrder}
 use Rattle.dl_row.specs.Rows.{Epoch, names_of, name_at, number_from, number_of, epoch_of, fact_by, fact_named, fact_in, fact_of, covering}
-use Rattle.dl_core.specs.Root.{IsNumbered, knows, AreEpochs}
+use Rattle.dl_core.specs.Root.{IsNumbered, AreEpochs}
+use Rattle.dl_edits.specs.Signatures.{knows}
 use Rattle.dl_core.specs.Next.{row_for}
 use Rattle.dl_row.specs.declared.row.Kind.{Kind}
 use Rattle.dl_row.specs.declared.row.Kind.TheVariants.{Class, Role}
 use Rattle.dl_row.specs.declared.row.Row.{Row}
 use Rattle.dl_migrate.proofs.NameLemmas.{number_from-suc}
 pub use Rattle.dl_migrate.proofs.NameLemmas.{some_none, some_some}
-use Rattle.dl_core.proofs.CountLemmas.{has_count}
+use Rattle.dl_edits.proofs.CountLemmas.{has_count}
 use Rattle.dl_row.proofs.CountLemmas.{same_is, same_itself}
 
 -- ---- the first item, and the last, that passes a test

@@ -8,29 +8,17 @@ use Rattle.dl_terms.specs.declared.axiom.Signature.{Signature}
 use Rattle.dl_terms.proofs.OrderLemmas.{facts_linear}
 use Rattle.dl_terms.proofs.MemberLemmas.{both_true, Contains-cons, Contains-nil, All-Contains}
 use Rattle.dl_row.specs.Lists.{count}
-use Rattle.dl_core.specs.Sets.{has, IsOnce}
+use Rattle.dl_edits.specs.Sets.{has, IsOnce}
 use Rattle.dl_row.specs.Rows.{Epoch, fact_of, is_fact, visible, rows_for}
-use Rattle.dl_core.specs.Root.{RowsSay, IsNumbered, IsPart, AreKnown}
+use Rattle.dl_core.specs.Root.{RowsSay, IsNumbered}
+use Rattle.dl_edits.specs.Signatures.{IsPart, AreKnown}
 use Rattle.dl_core.specs.Next.{visible_facts}
 use Rattle.dl_row.specs.declared.row.Row.{Row}
 use Rattle.dl_row.proofs.CountLemmas.{count_there}
-use Rattle.dl_core.proofs.SetLemmas.{has-with_items, once-with_items, once-nil, has_by_count}
+use Rattle.dl_edits.proofs.SetLemmas.{has-with_items, once-with_items, once-nil, has_by_count}
 use Rattle.dl_core.proofs.CommitLemmas.{is_fact-is}
 use Rattle.dl_core.proofs.EpochLemmas.{row_epoch, find_is}
-use Rattle.dl_core.proofs.EditLemmas.{knows_more}
-
--- what is there counts
-pub there_counts : {A : Type 0} (p : A → Bool) (xs : List A) (x : A) → Contains xs x → p x ≡ true → 1 ≤ count p xs
-there_counts p [] x c e = absurd (Contains-nil x c)
-there_counts {A} p (y ∷ xs) x c e = by (Contains-cons y x xs c) (there_counts p xs x)
-  where
-    here : (b : Bool) → b ≡ true → 1 ≤ cond b 1 0 + count p xs
-    here true e = omega arith
-    here false e = absurd (true≢false (sym e))
-
-    by : (y ≡ x) ⊎ Contains xs x → (Contains xs x → p x ≡ true → 1 ≤ count p xs) → 1 ≤ cond (p y) 1 0 + count p xs
-    by (inl same) ih = here (p y) (ap p same ∙ e)
-    by (inr later) ih = let h = ih later e in omega (arith, h)
+use Rattle.dl_edits.proofs.EditLemmas.{knows_more}
 
 -- the facts of the visible rows, as often as rows stand for them
 pub count_facts : (es : List Epoch) (rows : List Row) (v : ℕ) (f : Fact)

@@ -6,13 +6,14 @@ use Rattle.dl_terms.specs.declared.axiom.Fact.{Fact}
 use Rattle.dl_terms.specs.declared.axiom.Fact.TheVariants.{Is, Link}
 use Rattle.dl_terms.specs.declared.axiom.Signature.{Signature}
 use Rattle.dl_terms.proofs.OrderLemmas.{facts_linear, numbers_linear}
-use Rattle.dl_core.specs.Edits.{edited_facts, edited_signature}
+use Rattle.dl_edits.specs.Edits.{edited_facts, edited_signature}
 use Rattle.dl_core.specs.History.{Load, Entry, after_commits, commits_to, facts_at, signature_at}
 use Rattle.dl_core.specs.Loading.{IsFactIn}
-use Rattle.dl_core.specs.Root.{IsLoad, knows, AreKnown}
+use Rattle.dl_core.specs.Root.{IsLoad}
+use Rattle.dl_edits.specs.Signatures.{knows, AreKnown}
 use Rattle.dl_event.specs.declared.event.Edit.{Edit}
-use Rattle.dl_core.proofs.EditLemmas.{edited_known}
-use Rattle.dl_core.proofs.SetLemmas.{has_there, there_has}
+use Rattle.dl_edits.proofs.EditLemmas.{edited_known}
+use Rattle.dl_edits.proofs.SetLemmas.{has_there, there_has}
 
 commits_known : (cs : List (List Edit)) (s : Signature) (facts : List Fact) → AreKnown s facts
     → AreKnown (after_commits edited_signature cs s) (after_commits edited_facts cs facts)

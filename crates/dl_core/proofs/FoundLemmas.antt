@@ -26,7 +26,7 @@ use Rattle.dl_row.proofs.FindLemmas.{blank}
 use Rattle.dl_epoch.specs.Frozen.{Frozen, from_version}
 use Rattle.dl_epoch.specs.Covering.{Kept, kept, epoch_in}
 use Rattle.dl_epoch.specs.declared.entry.Entry.{Entry as Held}
-use Rattle.dl_core.specs.Sets.{has}
+use Rattle.dl_edits.specs.Sets.{has}
 use Rattle.dl_core.specs.History.{Load, Entry, facts_at}
 use Rattle.dl_core.specs.Root.{Root, IsNumbered, EndsAgree, IsLive, IsRowAt, StandsFor, epochs, shard, stands_in}
 use Rattle.dl_core.specs.Next.{root_facts}
@@ -37,7 +37,7 @@ use Rattle.dl_core.proofs.CommitLemmas.{is_fact-is}
 use Rattle.dl_core.proofs.EpochLemmas.{number_is, number_has, row_epoch, find_is}
 use Rattle.dl_core.proofs.FactLemmas.{visible_say}
 use Rattle.dl_core.proofs.NewRowLemmas.{number_named}
-use Rattle.dl_core.proofs.SetLemmas.{there_has}
+use Rattle.dl_edits.proofs.SetLemmas.{there_has}
 
 -- ---- the first place that passes
 

@@ -1,6 +1,6 @@
 -- Lists of entries that grow: what their versions have stays.
 use Rattle.std.proofs.Common.{◌≡◌, ℕ, ◌≤◌, List, [], ◌++◌, sym, ap, ◌∙◌, append_assoc, append-nil}
-use Rattle.dl_core.specs.Edits.{edited_axioms, edited_facts, edited_signature}
+use Rattle.dl_edits.specs.Edits.{edited_axioms, edited_facts, edited_signature}
 use Rattle.dl_core.specs.History.{Load, Entry, version_of, after_commits, commits_to, axioms_at, facts_at, signature_at}
 use Rattle.dl_core.specs.Legal.{Begins}
 use Rattle.dl_core.proofs.RunLemmas.{commits_to-more}

@@ -18,7 +18,7 @@ use Rattle.dl_core.specs.declared.book.Book.{Book}
 use Rattle.dl_event.specs.declared.pin.Pin.{Pin}
 use Rattle.dl_row.specs.Laws.{row_total}
 use Rattle.dl_row.proofs.OrderedLemmas.{ordered-ascends}
-use Rattle.dl_core.proofs.OrderedLemmas.{InOrder-filter}
+use Rattle.dl_edits.proofs.OrderedLemmas.{InOrder-filter}
 use Rattle.dl_core.proofs.ShardLemmas.{shards_together, shards_determine}
 
 before-push : {A : Type 0} (x : A) (xs : List A) (y : A) → before_last x (xs ++ y ∷ []) ≡ x ∷ xs

@@ -1,7 +1,3 @@
-pub mod CountLemmas
-pub mod SetLemmas
-pub mod OrderedLemmas
-pub mod EditLemmas
 pub mod EpochLemmas
 pub mod CommitLemmas
 pub mod FactLemmas
@@ -12,9 +8,6 @@ pub mod MaintainLemmas
 pub mod CommitKeepLemmas
 pub mod RunLemmas
 pub mod ReadLemmas
-pub mod AscendLemmas
-pub mod FewLemmas
-pub mod KnownLemmas
 pub mod RuleLemmas
 pub mod ShardLemmas
 pub mod HeldLemmas
@@ -25,13 +18,7 @@ pub mod PinnedLemmas
 pub mod ReaderLemmas
 pub mod NewRowLemmas
 pub mod PartLemmas
-pub mod AuxiliaryLemmas
-pub mod SetOfLemmas
 pub mod LoadLemmas
-pub mod SaidLemmas
-pub mod KeyLemmas
-pub mod AxiomEditLemmas
-pub mod SignatureEditLemmas
 pub mod PlaceLemmas
 pub mod FoundLemmas
 pub mod ChangeLemmas

@@ -25,11 +25,12 @@ use Rattle.dl_row.proofs.RowLemmas.{rows_linear}
 use Rattle.dl_epoch.specs.Frozen.{Frozen, IsFrozen, from_version}
 use Rattle.dl_epoch.specs.Covering.{epoch_in}
 use Rattle.dl_epoch.specs.Known.{IsSignature, max_weight}
-use Rattle.dl_core.specs.Sets.{has}
-use Rattle.dl_core.specs.Names.{predicates}
-use Rattle.dl_core.specs.Sets.{with_items}
+use Rattle.dl_edits.specs.Sets.{has}
+use Rattle.dl_edits.specs.Names.{predicates}
+use Rattle.dl_edits.specs.Sets.{with_items}
 use Rattle.dl_core.specs.History.{Load}
-use Rattle.dl_core.specs.Root.{Root, IsLoad, StandsFor, stands_in, knows}
+use Rattle.dl_core.specs.Root.{Root, IsLoad, StandsFor, stands_in}
+use Rattle.dl_edits.specs.Signatures.{knows}
 use Rattle.dl_migrate.specs.Tallies.{carries}
 use Rattle.dl_core.specs.Next.{Numbering, GoesByRule, epoch_from, row_for, loaded, load_refused, max_count}
 use Rattle.dl_core.specs.Held.{IsHeld, CountsRows, root_over}
@@ -37,15 +38,15 @@ use Rattle.dl_core.specs.Loading.{IsFactIn, IsLoadWithin, IsLoadOf, IsLoaded, Ar
 use Rattle.dl_core.specs.declared.book.Book.{Book}
 use Rattle.dl_core.specs.declared.fault.LoadFault.{LoadFault}
 use Rattle.dl_core.specs.declared.fault.LoadFault.TheVariants as fault
-use Rattle.dl_core.proofs.CountLemmas.{count-map, count-same}
+use Rattle.dl_edits.proofs.CountLemmas.{count-map, count-same}
 use Rattle.dl_core.proofs.HeldLemmas.{shards_are, held_over, held_root}
 use Rattle.dl_core.proofs.ShardLemmas.{filter-ordered}
 use Rattle.dl_core.proofs.RunLemmas.{loaded_stands}
 use Rattle.dl_core.proofs.RuleLemmas.{rule_is_numbering, ruled_epoch, rule_exists}
-use Rattle.dl_core.proofs.SetOfLemmas.{set_between, set_exists}
-use Rattle.dl_core.proofs.AuxiliaryLemmas.{count_all}
-use Rattle.dl_core.proofs.AscendLemmas.{sorted-once, signature-once}
-use Rattle.dl_core.proofs.SetLemmas.{has_there, there_has}
+use Rattle.dl_edits.proofs.SetOfLemmas.{set_between, set_exists}
+use Rattle.dl_edits.proofs.AuxiliaryLemmas.{count_all}
+use Rattle.dl_edits.proofs.AscendLemmas.{sorted-once, signature-once}
+use Rattle.dl_edits.proofs.SetLemmas.{has_there, there_has}
 
 -- ---- the limits
 

@@ -22,16 +22,16 @@ use Rattle.dl_row.proofs.RowLemmas.{rows_linear}
 use Rattle.dl_epoch.specs.Frozen.{Frozen, from_version}
 use Rattle.dl_epoch.specs.Covering.{Kept, kept, epoch_in}
 use Rattle.dl_epoch.specs.declared.entry.Entry.{Entry}
-use Rattle.dl_core.specs.Sets.{has, IsOnce}
+use Rattle.dl_edits.specs.Sets.{has, IsOnce}
 use Rattle.dl_core.specs.Root.{Root, IsNumbered, epochs}
 use Rattle.dl_migrate.specs.Tallies.{carries}
-use Rattle.dl_core.specs.Names.{predicates}
+use Rattle.dl_edits.specs.Names.{predicates}
 use Rattle.dl_core.specs.Next.{behind, looked}
 use Rattle.dl_core.specs.Held.{AreShardsOf, IsBookOf, IsSound, CountsRows}
 use Rattle.dl_core.specs.declared.book.Book.{Book}
 use Rattle.dl_event.specs.declared.reply.Looked.{Looked}
 use Rattle.dl_event.specs.declared.reply.Reply.TheVariants as reply
-use Rattle.dl_core.proofs.CountLemmas.{count_once}
+use Rattle.dl_edits.proofs.CountLemmas.{count_once}
 use Rattle.dl_core.proofs.EpochLemmas.{current_numbered}
 use Rattle.dl_core.proofs.ShardLemmas.{filter-ordered}
 

@@ -26,18 +26,19 @@ use Rattle.dl_migrate.specs.Tallies.{carries}
 use Rattle.dl_migrate.proofs.ListLemmas.{count-change_first}
 use Rattle.dl_migrate.proofs.MoveLemmas.{row_form}
 use Rattle.dl_migrate.proofs.SweepLemmas.{over_unseen}
-use Rattle.dl_core.specs.Names.{predicates}
+use Rattle.dl_edits.specs.Names.{predicates}
 use Rattle.dl_core.specs.History.{Load, Entry}
-use Rattle.dl_core.specs.Root.{Root, epochs, rows_in, stands_in, IsLive, IsRowAt, EndsAgree, AreEpochs, AreRows, StandsFor, IsPart, IsNumbered, knows}
+use Rattle.dl_core.specs.Root.{Root, epochs, rows_in, stands_in, IsLive, IsRowAt, EndsAgree, AreEpochs, AreRows, StandsFor, IsNumbered}
+use Rattle.dl_edits.specs.Signatures.{IsPart, knows}
 use Rattle.dl_core.specs.Next.{is_behind_in, migrated, least, pinned_versions, horizon, is_over_in, swept, is_dead_in, reclaimed}
 use Rattle.dl_event.specs.declared.pin.Pin.{Pin}
-use Rattle.dl_core.proofs.CountLemmas.{and_false, count-agree}
+use Rattle.dl_edits.proofs.CountLemmas.{and_false, count-agree}
 use Rattle.dl_core.proofs.CommitLemmas.{le_true}
-use Rattle.dl_core.proofs.OrderedLemmas.{All-ordered}
+use Rattle.dl_edits.proofs.OrderedLemmas.{All-ordered}
 use Rattle.dl_core.proofs.ChangedListLemmas.{count-drop_first, count-drop_first_le, each-front, All-change_first, All-drop_first, InOrder-drop_first, InOrder-filter_push, length-change_first, length-drop_first, length-filter_le, find-append_rest, find-filter_found, find-filter_none, last_where-filter}
 use Rattle.dl_core.proofs.EpochLemmas.{find-append_found, find_is, covering-push, covering-push_later, last_is_found, name_of_number, row_epoch, same_fact, current_numbered, some_some}
-use Rattle.dl_core.proofs.FactLemmas.{there_counts}
-use Rattle.dl_core.proofs.EditLemmas.{knows_more}
+use Rattle.dl_edits.proofs.CountLemmas.{there_counts}
+use Rattle.dl_edits.proofs.EditLemmas.{knows_more}
 
 -- ---- what is read at the live versions stays, and so does what the root stands for
 

@@ -18,7 +18,8 @@ use Rattle.dl_epoch.specs.declared.entry.Entry.{Entry}
 use Rattle.dl_migrate.specs.Moving.{IsKnownTo, CanMove}
 use Rattle.dl_migrate.specs.Reclaiming.{is_dead, is_dead_entry, dead_ids, older}
 use Rattle.dl_migrate.specs.Tallies.{carries}
-use Rattle.dl_core.specs.Root.{Root, AreEpochs, IsRowAt, knows, epochs, shard, stands_in}
+use Rattle.dl_core.specs.Root.{Root, AreEpochs, IsRowAt, epochs, shard, stands_in}
+use Rattle.dl_edits.specs.Signatures.{knows}
 use Rattle.dl_core.specs.Next.{with_rows, least, pinned_versions, is_dead_in, reclaimed}
 use Rattle.dl_core.specs.Held.{IsBookOf, IsHeld, IsSound, AreShardsOf, CountsRows}
 use Rattle.dl_core.specs.Maintaining.{recounted, HasThose, IsRefill, AreShardsWith}
@@ -26,8 +27,8 @@ use Rattle.dl_core.specs.declared.book.Book.{Book}
 use Rattle.dl_core.proofs.HeldLemmas.{shards_are}
 use Rattle.dl_core.proofs.LookLemmas.{count_le}
 use Rattle.dl_core.proofs.MaintainLemmas.{row_known, reclaimed_keep, reclaimed_epochs}
-use Rattle.dl_core.proofs.OrderedLemmas.{each-last}
-use Rattle.dl_core.proofs.SetLemmas.{there_has}
+use Rattle.dl_edits.proofs.OrderedLemmas.{each-last}
+use Rattle.dl_edits.proofs.SetLemmas.{there_has}
 use Rattle.dl_core.proofs.ShardLemmas.{filter-map}
 
 -- ---- entries in order

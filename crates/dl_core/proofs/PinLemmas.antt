@@ -5,12 +5,12 @@ use Rattle.std.proofs.lemmas.List.Elements.{All-filter, All-push, Contains-appen
 use Rattle.dl_terms.proofs.MemberLemmas.{Contains-first, Contains-later, Contains-cons, Contains-one}
 use Rattle.dl_row.specs.Lists.{count, first_some}
 use Rattle.dl_core.specs.History.{Load, Entry, accepted, commits, version_of, after_commits, axioms_at, facts_at, signature_at, pinned_by, pin_of}
-use Rattle.dl_core.specs.Edits.{edited_axioms, edited_facts, edited_signature}
+use Rattle.dl_edits.specs.Edits.{edited_axioms, edited_facts, edited_signature}
 use Rattle.dl_core.specs.Root.{Root, epochs, pin_in, IsLive, ReadsAs, StandsFor}
 use Rattle.dl_event.specs.declared.pin.Pin.{Pin}
 use Rattle.dl_event.specs.declared.reply.Reply.TheVariants as reply
 use Rattle.dl_row.proofs.CountLemmas.{count-append}
-use Rattle.dl_core.proofs.CountLemmas.{count-filter_le}
+use Rattle.dl_edits.proofs.CountLemmas.{count-filter_le}
 use Rattle.dl_core.proofs.EpochLemmas.{some_none}
 use Rattle.dl_core.proofs.HistoryLemmas.{commits-silent, pin-push}
 

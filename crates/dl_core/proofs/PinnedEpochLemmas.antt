@@ -15,13 +15,13 @@ use Rattle.dl_epoch.specs.Covering.{Kept, epoch_in}
 use Rattle.dl_core.specs.Held.{IsBookOf, IsSound}
 use Rattle.dl_core.specs.History.{Load, Entry, version_of, axioms_at, signature_at}
 use Rattle.dl_core.specs.Legal.{Reader, ReaderStandsFor, root_of}
-use Rattle.dl_core.specs.Names.{predicates}
+use Rattle.dl_edits.specs.Names.{predicates}
 use Rattle.dl_core.specs.Next.{Numbering, IsNumbering}
 use Rattle.dl_core.specs.Root.{Root, IsLive, IsLoad, epochs, pin_in}
 use Rattle.dl_core.specs.declared.book.Book.{Book}
 use Rattle.dl_event.specs.declared.pin.Pin.{Pin}
 use Rattle.dl_core.proofs.EpochLemmas.{some_none, some_some}
-use Rattle.dl_core.proofs.FewLemmas.{predicates_few}
+use Rattle.dl_edits.proofs.FewLemmas.{predicates_few}
 use Rattle.dl_core.proofs.ReadLemmas.{pin_there}
 use Rattle.dl_core.proofs.ReaderLemmas.{reader_reads}
 use Rattle.dl_core.proofs.RunLemmas.{legal_stands}

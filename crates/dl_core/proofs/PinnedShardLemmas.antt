@@ -12,13 +12,13 @@ use Rattle.dl_core.specs.History.{Load, Entry, facts_at}
 use Rattle.dl_core.specs.Legal.{Reader, ReaderStandsFor}
 use Rattle.dl_core.specs.Next.{Numbering, IsNumbering}
 use Rattle.dl_core.specs.Root.{IsLoad, RowsSay, epochs, shard, stands_in}
-use Rattle.dl_core.specs.Sets.{has}
+use Rattle.dl_edits.specs.Sets.{has}
 use Rattle.dl_core.proofs.CommitLemmas.{is_fact-is}
-use Rattle.dl_core.proofs.CountLemmas.{count-and, count-filter, count-same}
+use Rattle.dl_edits.proofs.CountLemmas.{count-and, count-filter, count-same}
 use Rattle.dl_core.proofs.FactLemmas.{count_facts}
 use Rattle.dl_core.proofs.FoundLemmas.{row_end}
 use Rattle.dl_core.proofs.ReaderLemmas.{reader_reads}
-use Rattle.dl_core.proofs.SetLemmas.{has_by_count, has_there, there_has}
+use Rattle.dl_edits.proofs.SetLemmas.{has_by_count, has_there, there_has}
 
 -- one where both hold
 of_both : (a b : Bool) → ◌≡◌ {A = ℕ} (cond b (cond a 1 0) 0) (cond (a && b) 1 0)

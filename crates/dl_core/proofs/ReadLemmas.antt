@@ -1,7 +1,7 @@
 -- What a stream with a pin reads, and that sets ascend.
 use Rattle.std.proofs.Common.{◌≡◌, ℕ, ◌≤◌, Bool, true, false, cond, ◌==◌, List, [], ◌∷◌, ◌++◌, Contains, Some, subst, ◌∙◌}
 use Rattle.dl_terms.proofs.MemberLemmas.{Contains-first, Contains-later, All-Contains}
-use Rattle.dl_core.specs.Edits.{edited_axioms, edited_facts, edited_signature}
+use Rattle.dl_edits.specs.Edits.{edited_axioms, edited_facts, edited_signature}
 use Rattle.dl_core.specs.History.{Load, Entry, version_of, after_commits, axioms_at, facts_at, signature_at, pin_of}
 use Rattle.dl_core.specs.Root.{Root, epochs, pin_in, IsLive, ReadsAs, IsLoad}
 use Rattle.dl_core.specs.Next.{Numbering, IsNumbering, loaded, next}

@@ -8,8 +8,8 @@ use Rattle.dl_terms.specs.declared.role.Basic.TheVariants as basic
 use Rattle.dl_numbers.specs.Rule.{IsByRule}
 use Rattle.dl_row.specs.declared.row.Kind.TheVariants as kind
 use Rattle.dl_epoch.specs.Frozen.{Frozen, IsFrozen, from_version}
-use Rattle.dl_core.specs.Sets.{has, IsOnce}
-use Rattle.dl_core.proofs.AscendLemmas.{signature-once}
+use Rattle.dl_edits.specs.Sets.{has, IsOnce}
+use Rattle.dl_edits.proofs.AscendLemmas.{signature-once}
 use Rattle.dl_core.specs.Next.{Numbering, epoch_from, IsNumbering, GoesByRule}
 
 -- ---- the rule

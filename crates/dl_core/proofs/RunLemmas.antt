@@ -8,11 +8,12 @@ use Rattle.dl_terms.specs.declared.axiom.Fact.{Fact}
 use Rattle.dl_terms.proofs.OrderLemmas.{facts_linear}
 use Rattle.dl_terms.proofs.MemberLemmas.{Contains-nil}
 use Rattle.dl_normal.specs.Weight.{total_weight}
-use Rattle.dl_core.specs.Names.{predicates}
+use Rattle.dl_edits.specs.Names.{predicates}
 use Rattle.dl_row.specs.Lists.{count, ordered}
 use Rattle.dl_core.specs.History.{Load, Entry, accepted, commits, version_of, commits_to, axioms_at, facts_at, signature_at}
 use Rattle.dl_row.specs.Rows.{Epoch, fact_of, is_fact, visible, rows_for, row_cmp}
-use Rattle.dl_core.specs.Root.{Root, pin_in, IsLive, IsNumbered, IsPart, IsRowAt, RowsSay, ReadsAs, StandsFor, IsLoad}
+use Rattle.dl_core.specs.Root.{Root, pin_in, IsLive, IsNumbered, IsRowAt, RowsSay, ReadsAs, StandsFor, IsLoad}
+use Rattle.dl_edits.specs.Signatures.{IsPart}
 use Rattle.dl_epoch.specs.Known.{max_weight}
 use Rattle.dl_hier.specs.Predicates.{max_predicates}
 use Rattle.dl_core.specs.Next.{Numbering, IsNumbering, IsReady, epoch_from, row_for, loaded, committed, commit_refused, refused_or, pinned, unpinned, migrated, swept, behind, is_behind_in, is_over_in, is_dead_in, reclaimed, looked, next}
@@ -25,14 +26,14 @@ use Rattle.dl_event.specs.declared.reply.Reply.TheVariants as reply
 use Rattle.dl_event.specs.declared.reply.Refusal.{Refusal}
 use Rattle.dl_event.specs.declared.reply.Refusal.TheVariants.{NoShard}
 use Rattle.dl_row.proofs.CountLemmas.{count-ordered}
-use Rattle.dl_core.proofs.CountLemmas.{count-map, count-agree, count_once}
-use Rattle.dl_core.proofs.EditLemmas.{part_itself}
+use Rattle.dl_edits.proofs.CountLemmas.{count-map, count-agree, count_once}
+use Rattle.dl_edits.proofs.EditLemmas.{part_itself}
 use Rattle.dl_core.proofs.CommitLemmas.{new_now}
 use Rattle.dl_row.specs.Laws.{row_total}
-use Rattle.dl_core.proofs.OrderedLemmas.{All-ordered}
+use Rattle.dl_edits.proofs.OrderedLemmas.{All-ordered}
 use Rattle.dl_row.proofs.OrderedLemmas.{ordered-ascends, length-ordered}
 use Rattle.dl_core.proofs.EpochLemmas.{row_for_stands}
-use Rattle.dl_core.proofs.SetLemmas.{has_there}
+use Rattle.dl_edits.proofs.SetLemmas.{has_there}
 use Rattle.dl_core.proofs.MaintainLemmas.{migrated_keep, swept_keep, reclaimed_keep}
 use Rattle.dl_core.proofs.PinLemmas.{silent_keeps, pinned_keeps, unpinned_keeps}
 use Rattle.dl_core.proofs.CommitKeepLemmas.{committed_keeps, new_row}

@@ -22,7 +22,7 @@ use Rattle.dl_core.specs.Held.{IsSound}
 use Rattle.dl_core.specs.Changes.{blank, StandsAt, AreGone, IsPlaceIn, with_ended}
 use Rattle.dl_core.proofs.ChangeLemmas.{stands_there}
 use Rattle.dl_core.proofs.FoundLemmas.{row_end}
-use Rattle.dl_core.proofs.OrderedLemmas.{InOrder-filter}
+use Rattle.dl_edits.proofs.OrderedLemmas.{InOrder-filter}
 use Rattle.dl_core.proofs.PinLemmas.{Contains-filter}
 use Rattle.dl_core.proofs.PlaceLemmas.{taken_of, taken-read, length-taken_from, count-changed, tell}
 

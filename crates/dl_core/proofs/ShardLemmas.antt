@@ -8,17 +8,17 @@ use Rattle.std.proofs.lemmas.List.Elements.{filter-append}
 use Rattle.dl_terms.specs.declared.axiom.Fact.{Fact}
 use Rattle.dl_terms.proofs.OrderLemmas.{IsLinear}
 use Rattle.dl_row.specs.Lists.{count, ordered, Ascends}
-use Rattle.dl_core.specs.Edits.{edited_facts}
+use Rattle.dl_edits.specs.Edits.{edited_facts}
 use Rattle.dl_row.specs.Rows.{fact_of, row_cmp, open_end}
 use Rattle.dl_core.specs.Root.{Root, epochs, stands_in, shard, AreInShards}
 use Rattle.dl_core.specs.Next.{Numbering, is_among, ended, ended_at, row_for, new_facts, root_facts, committed, committed_epoch}
 use Rattle.dl_row.specs.declared.row.Row.{Row}
 use Rattle.dl_event.specs.declared.event.Edit.{Edit}
 use Rattle.dl_row.proofs.CountLemmas.{count-ordered, same_is}
-use Rattle.dl_core.proofs.CountLemmas.{count-filter, count-same}
+use Rattle.dl_edits.proofs.CountLemmas.{count-filter, count-same}
 use Rattle.dl_row.proofs.OrderedLemmas.{ordered-ascends, same_ordered, ordered-same}
 use Rattle.dl_row.proofs.RowLemmas.{rows_linear}
-use Rattle.dl_core.proofs.OrderedLemmas.{InOrder-filter}
+use Rattle.dl_edits.proofs.OrderedLemmas.{InOrder-filter}
 
 -- ---- lists in order
 

@@ -10,7 +10,7 @@ use Rattle.dl_row.specs.Rows.{fact_in, fact_of, open_end, row_cmp}
 use Rattle.dl_row.specs.declared.row.Kind.TheVariants.{Class}
 use Rattle.dl_row.specs.declared.row.Row.{Row}
 use Rattle.dl_epoch.specs.Frozen.{Frozen, from_version}
-use Rattle.dl_core.specs.Sets.{has}
+use Rattle.dl_edits.specs.Sets.{has}
 use Rattle.dl_core.specs.Root.{Root, IsNumbered, EndsAgree, epochs, shard}
 use Rattle.dl_core.specs.Next.{ended_at, root_facts}
 

@@ -16,7 +16,7 @@ use Rattle.dl_epoch.specs.Frozen.{IsFrozen}
 use Rattle.dl_epoch.specs.Covering.{Kept, epoch_in}
 use Rattle.dl_row.specs.Shards.{max_rows}
 use Rattle.dl_core.specs.Root.{Root, epochs, shard, max_epochs}
-use Rattle.dl_core.specs.Edits.{edited_axioms, edited_signature, edited_facts}
+use Rattle.dl_edits.specs.Edits.{edited_axioms, edited_signature, edited_facts}
 use Rattle.dl_core.specs.Next.{opens, root_facts, new_facts, ended, commit_refused}
 use Rattle.dl_event.specs.Auxiliaries.{ItemHasNoAuxiliary}
 use Rattle.dl_core.specs.Held.{CountsRows}

@@ -6,7 +6,7 @@ use Rattle.std.specs.declared.option.Option.TheVariants.{Some, None}
 use Rattle.dl_terms.specs.declared.axiom.Axiom.{Axiom}
 use Rattle.dl_terms.specs.declared.axiom.Fact.{Fact}
 use Rattle.dl_terms.specs.declared.axiom.Signature.{Signature}
-use Rattle.dl_core.specs.Edits.{edited_axioms, edited_facts, edited_signature}
+use Rattle.dl_edits.specs.Edits.{edited_axioms, edited_facts, edited_signature}
 use Rattle.dl_event.specs.declared.event.Edit.{Edit}
 use Rattle.dl_event.specs.declared.event.Event.{Event}
 use Rattle.dl_event.specs.declared.event.Event.TheVariants as event

@@ -1,13 +1,9 @@
-pub mod Sets
-pub mod Names
-pub mod Edits
 pub mod History
 pub mod Root
 pub mod Next
 pub mod Legal
 pub mod Held
 pub mod Loading
-pub mod Decided
 pub mod Changes
 pub mod Committing
 pub mod Steps

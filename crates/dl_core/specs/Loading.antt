@@ -17,7 +17,7 @@ use Rattle.dl_row.specs.declared.row.Row.{Row}
 use Rattle.dl_epoch.specs.Known.{max_weight}
 use Rattle.dl_epoch.specs.Frozen.{Frozen}
 use Rattle.dl_epoch.specs.Covering.{Kept}
-use Rattle.dl_core.specs.Names.{predicates}
+use Rattle.dl_edits.specs.Names.{predicates}
 use Rattle.dl_core.specs.History.{Load}
 use Rattle.dl_core.specs.Root.{Root, stands_in, StandsFor, IsLoad}
 use Rattle.dl_core.specs.Next.{Numbering, GoesByRule, loaded, load_refused}

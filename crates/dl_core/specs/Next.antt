@@ -16,13 +16,14 @@ use Rattle.dl_terms.specs.Roles.{named}
 use Rattle.dl_terms.specs.declared.role.Basic.TheVariants as basic
 use Rattle.dl_numbers.specs.Rule.{IsByRule}
 use Rattle.dl_row.specs.Lists.{count, ordered}
-use Rattle.dl_core.specs.Sets.{has, with_items}
+use Rattle.dl_edits.specs.Sets.{has, with_items}
 use Rattle.dl_normal.specs.Weight.{total_weight}
-use Rattle.dl_core.specs.Names.{predicates}
-use Rattle.dl_core.specs.Edits.{edited_axioms, edited_facts, edited_signature}
+use Rattle.dl_edits.specs.Names.{predicates}
+use Rattle.dl_edits.specs.Edits.{edited_axioms, edited_facts, edited_signature}
 use Rattle.dl_core.specs.History.{Load}
 use Rattle.dl_row.specs.Rows.{Epoch, number_of, fact_of, visible, row_cmp, open_end}
-use Rattle.dl_core.specs.Root.{Root, HasEachOnce, IsNumbered, epochs, stands_in, rows_in, pin_in, max_epochs, max_version}
+use Rattle.dl_core.specs.Root.{Root, IsNumbered, epochs, stands_in, rows_in, pin_in, max_epochs, max_version}
+use Rattle.dl_edits.specs.Signatures.{HasEachOnce}
 use Rattle.dl_epoch.specs.Known.{max_weight}
 use Rattle.dl_hier.specs.Predicates.{max_predicates}
 use Rattle.dl_row.specs.Shards.{max_rows}

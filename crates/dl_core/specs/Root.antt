@@ -10,8 +10,9 @@ use Rattle.dl_terms.specs.declared.axiom.Fact.{Fact}
 use Rattle.dl_terms.specs.declared.axiom.Fact.TheVariants.{Is, Link}
 use Rattle.dl_terms.specs.declared.axiom.Signature.{Signature}
 use Rattle.dl_row.specs.Lists.{count, InOrder, Ascends}
-use Rattle.dl_core.specs.Sets.{has, IsOnce}
-use Rattle.dl_core.specs.Names.{predicates}
+use Rattle.dl_edits.specs.Sets.{has, IsOnce}
+use Rattle.dl_edits.specs.Names.{predicates}
+use Rattle.dl_edits.specs.Signatures.{HasEachOnce, IsPart, AreKnown}
 use Rattle.dl_normal.specs.Weight.{total_weight}
 use Rattle.dl_core.specs.History.{Load, Entry, version_of, axioms_at, facts_at, signature_at, pin_of}
 use Rattle.dl_row.specs.Rows.{Epoch, fact_of, rows_for, covering, row_cmp, open_end}
@@ -80,11 +81,6 @@ pub data IsInUse (root : Root) (e : Epoch) : Type 0 where
 
 -- ---- a root stands for a history
 
--- a signature has each name once
-pub record HasEachOnce (s : Signature) : Type 0 where
-  pub classes : IsOnce nat_cmp s.classes
-  pub roles : IsOnce nat_cmp s.roles
-
 -- the numbering of an epoch has the names of its signature, each once
 pub record IsNumbered (e : Epoch) : Type 0 where
   pub classes : (name : ℕ) → has nat_cmp e.classes name ≡ has nat_cmp e.signature.classes name
@@ -92,20 +88,6 @@ pub record IsNumbered (e : Epoch) : Type 0 where
   pub classes_once : IsOnce nat_cmp e.classes
   pub roles_once : IsOnce nat_cmp e.roles
   pub signature : HasEachOnce e.signature
-
--- a signature is part of another one
-pub record IsPart (s t : Signature) : Type 0 where
-  pub classes : (name : ℕ) → has nat_cmp s.classes name ≡ true → has nat_cmp t.classes name ≡ true
-  pub roles : (name : ℕ) → has nat_cmp s.roles name ≡ true → has nat_cmp t.roles name ≡ true
-
--- the predicate of a fact is in a signature
-abbrev pub knows : Signature → Fact → Bool
-knows s (Is c x) = has nat_cmp s.classes c
-knows s (Link p x y) = has nat_cmp s.roles p
-
--- the predicates of facts are in a signature
-abbrev pub AreKnown : Signature → List Fact → Type 0
-AreKnown s facts = (f : Fact) → has fact_cmp facts f ≡ true → knows s f ≡ true
 
 -- the ends of a class row are one
 abbrev pub EndsAgree : Kind → ℕ → ℕ → Type 0

@@ -1,7 +1,7 @@
 // Which facts a commit brings, and which it takes away.
 ghost use Rattle.std.specs.Prelude.{◌≡◌, IfOk};
 ghost use Rattle.dl_terms.specs.Order.{fact_cmp};
-ghost use Rattle.dl_core.specs.Sets.{has};
+ghost use Rattle.dl_edits.specs.Sets.{has};
 ghost use Rattle.dl_core.specs.Next.{IsReady, root_facts};
 ghost use Rattle.dl_core.specs.Changes.{turns, turned};
 

@@ -6,10 +6,10 @@ ghost use Rattle.dl_event.specs.declared.event.Event.TheVariants as event;
 
 use crate::changes::turned_facts;
 use crate::committed::committed;
-use crate::edited_facts::decided_facts;
 use crate::limits::refused;
 use crate::ontology::edited;
 use crate::{Edit, Reply, Root};
+use dl_edits::decided_facts;
 use dl_terms::NoMemory;
 use std::alloc::Global;
 

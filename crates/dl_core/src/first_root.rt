@@ -7,11 +7,10 @@ ghost use Rattle.dl_epoch.specs.Known.{IsSignature, IsAxiomIn};
 ghost use Rattle.dl_core.specs.History.{Load};
 ghost use Rattle.dl_core.specs.Loading.{IsFactIn, IsLoadOf, IsLoaded, IsLoadFault, IsLoadWithin, first_book, load_with};
 
-use crate::counts::predicate_count;
 use crate::loaded_shards::loaded_shards;
-use crate::sets::{axiom_set, axioms_ascend, fact_set, facts_ascend};
 use crate::{Book, LoadFault, Root};
-use dl_epoch::{Entry, Epoch, Epochs};
+use dl_edits::{axiom_set, axioms_ascend, fact_set, facts_ascend, predicate_count};
+use dl_epoch::{Entry, Epoch, Epochs, copied_axioms};
 use dl_hier::MAX_PREDICATES;
 use dl_normal::weight;
 use dl_terms::{Axiom, Fact, List, NoMemory, Signature};
@@ -47,7 +46,8 @@ pub fn load(
     if axioms_ascend(axioms) {
         return load_axioms(alloc, axioms, signature, facts, shards);
     }
-    let set = axiom_set(alloc, axioms)?;
+    let copies = copied_axioms(alloc, axioms)?;
+    let set = axiom_set(copies);
     load_axioms(alloc, set.as_slice(), signature, facts, shards)
 }
 
@@ -72,7 +72,8 @@ fn load_axioms(
     if facts_ascend(facts) {
         return load_sets(alloc, axioms, signature, facts, shards);
     }
-    let set = fact_set(alloc, facts)?;
+    let copies = List::of(Vec::from_slice(alloc, facts)?);
+    let set = fact_set(copies);
     load_sets(alloc, axioms, signature, set.as_slice(), shards)
 }
 

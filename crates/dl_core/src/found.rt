@@ -2,7 +2,7 @@
 ghost use Rattle.std.specs.Prelude.{◌≡◌, false, MatchOption};
 ghost use Rattle.dl_terms.specs.Order.{fact_cmp};
 ghost use Rattle.dl_terms.specs.declared.axiom.Fact.TheVariants.{Is, Link};
-ghost use Rattle.dl_core.specs.Sets.{has};
+ghost use Rattle.dl_edits.specs.Sets.{has};
 ghost use Rattle.dl_core.specs.Next.{root_facts};
 ghost use Rattle.dl_core.specs.Changes.{first_end, OpensAt, NoneOpens, StandsAt};
 

@@ -8,10 +8,6 @@ mod commit;
 mod committed;
 mod committed_shard;
 mod copies;
-mod counts;
-mod edited_axioms;
-mod edited_facts;
-mod edited_signature;
 mod fault;
 mod first_root;
 mod found;
@@ -30,7 +26,6 @@ mod reclaim;
 mod refilled;
 mod root;
 mod root_reads;
-mod sets;
 
 pub use book::Book;
 pub use dl_event::{

@@ -5,10 +5,10 @@ ghost use Rattle.dl_core.specs.Next.{commit_refused};
 ghost use Rattle.dl_core.specs.Committing.{IsEdited, added, unfit};
 ghost use Rattle.dl_event.specs.declared.event.Edit.{Edit as AnyEdit};
 
-use crate::counts::predicate_count;
 use crate::first_root::{MAX_ROWS, MAX_WEIGHT};
 use crate::ontology::Ontology;
 use crate::{Refusal, Root};
+use dl_edits::predicate_count;
 use dl_hier::MAX_PREDICATES;
 use dl_normal::weight;
 use dl_terms::NoMemory;

@@ -3,10 +3,9 @@ ghost use Rattle.std.specs.Prelude.{IfOk};
 ghost use Rattle.dl_epoch.specs.Known.{IsSignature};
 ghost use Rattle.dl_core.specs.Committing.{IsEdited};
 
-use crate::edited_axioms::edited_axioms;
-use crate::edited_signature::edited_signature;
 use crate::opening::{same_axioms, same_signature};
 use crate::{Edit, Root};
+use dl_edits::{edited_axioms, edited_signature};
 use dl_epoch::Epoch;
 use dl_terms::{Axiom, List, NoMemory, Signature};
 use std::alloc::Global;

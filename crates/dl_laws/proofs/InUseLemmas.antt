@@ -16,7 +16,7 @@ use Rattle.dl_event.specs.declared.pin.Pin.{Pin}
 use Rattle.dl_core.proofs.ChangedListLemmas.{last_where_is}
 use Rattle.dl_core.proofs.CommitLemmas.{is_equal}
 use Rattle.dl_core.proofs.MaintainLemmas.{covers_still, kept_by_pin, kept_by_row}
-use Rattle.dl_core.proofs.OrderedLemmas.{each-last}
+use Rattle.dl_edits.proofs.OrderedLemmas.{each-last}
 use Rattle.dl_core.proofs.PinLemmas.{Contains-filter}
 
 Contains-kept : (q : Epoch → Bool) (xs : List Epoch) (x : Epoch) → Contains xs x → q x ≡ true → Contains (filter q xs) x

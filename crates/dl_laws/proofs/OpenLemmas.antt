@@ -6,10 +6,11 @@ use Rattle.dl_terms.specs.declared.axiom.Fact.{Fact}
 use Rattle.dl_terms.specs.declared.axiom.Fact.TheVariants.{Is, Link}
 use Rattle.dl_terms.proofs.OrderLemmas.{facts_linear}
 use Rattle.dl_terms.proofs.MemberLemmas.{both_true, All-Contains}
-use Rattle.dl_core.specs.Sets.{has}
+use Rattle.dl_edits.specs.Sets.{has}
 use Rattle.dl_core.specs.History.{Load, Entry, facts_at}
 use Rattle.dl_row.specs.Rows.{Epoch, epoch_of, names_of, name_at, fact_by, fact_named, fact_in, fact_of, is_fact, visible, rows_for, open_end}
-use Rattle.dl_core.specs.Root.{Root, epochs, IsLive, IsNumbered, EndsAgree, IsRowAt, StandsFor, knows}
+use Rattle.dl_core.specs.Root.{Root, epochs, IsLive, IsNumbered, EndsAgree, IsRowAt, StandsFor}
+use Rattle.dl_edits.specs.Signatures.{knows}
 use Rattle.dl_core.specs.Next.{row_for, root_facts}
 use Rattle.dl_row.specs.declared.row.Kind.{Kind}
 use Rattle.dl_row.specs.declared.row.Kind.TheVariants.{Class, Role}
@@ -17,7 +18,8 @@ use Rattle.dl_row.specs.declared.row.Row.{Row}
 use Rattle.dl_row.proofs.CountLemmas.{same_itself, count_there}
 use Rattle.dl_core.proofs.CommitLemmas.{is_fact-is, is_equal, le_true, lt_true}
 use Rattle.dl_core.proofs.EpochLemmas.{some_none, some_some, number_is, find_is, row_epoch, row_for_stands}
-use Rattle.dl_core.proofs.FactLemmas.{there_counts, visible_are}
+use Rattle.dl_core.proofs.FactLemmas.{visible_are}
+use Rattle.dl_edits.proofs.CountLemmas.{there_counts}
 
 -- an open row that stands for a fact by an epoch is the one that this epoch gives it
 row_is : (e : Epoch) (r : Row) (f : Fact) (k : Kind) → r.kind ≡ k → IsNumbered e → EndsAgree r.kind r.s r.o → fact_in r (Some e) ≡ Some f

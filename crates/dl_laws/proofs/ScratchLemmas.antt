@@ -21,8 +21,8 @@ use Rattle.dl_migrate.specs.Lists.{change_first}
 use Rattle.dl_migrate.specs.Moving.{numbered_in, renumbered}
 use Rattle.dl_migrate.specs.Tallies.{carries}
 use Rattle.dl_migrate.proofs.ListLemmas.{count-change_first}
-use Rattle.dl_core.specs.Sets.{has, IsOnce}
-use Rattle.dl_core.specs.Edits.{edited_axioms, edited_facts, edited_signature}
+use Rattle.dl_edits.specs.Sets.{has, IsOnce}
+use Rattle.dl_edits.specs.Edits.{edited_axioms, edited_facts, edited_signature}
 use Rattle.dl_core.specs.History.{Load, Entry, version_of, axioms_at, facts_at, signature_at, after_commits, commits_to}
 use Rattle.dl_core.specs.Root.{Root, epochs, IsLive, IsNumbered, EndsAgree, IsRowAt, ReadsAs, StandsFor, IsLoad, pin_in}
 use Rattle.dl_core.specs.Next.{Numbering, IsNumbering, epoch_from, row_for, loaded, committed, committed_epoch, commit_refused, refused_or, pinned, unpinned, opens, ended, ended_at, is_among, new_facts, root_facts, migrated, swept, behind, is_behind_in, is_over_in, next}
@@ -36,10 +36,10 @@ use Rattle.dl_event.specs.declared.reply.Reply.{Reply}
 use Rattle.dl_event.specs.declared.reply.Reply.TheVariants as reply
 use Rattle.dl_event.specs.declared.reply.Refusal.{Refusal}
 use Rattle.dl_event.specs.declared.reply.Refusal.TheVariants.{NoShard}
-use Rattle.dl_core.proofs.CountLemmas.{and_true, count-map, count-same, count-none, count-filter, count_once}
+use Rattle.dl_edits.proofs.CountLemmas.{and_true, count-map, count-same, count-none, count-filter, count_once}
 use Rattle.dl_core.proofs.ChangedListLemmas.{count-drop_first_le}
 use Rattle.dl_core.proofs.CommitLemmas.{le_true, new_now, is_equal}
-use Rattle.dl_core.proofs.EditLemmas.{edited_facts_once}
+use Rattle.dl_edits.proofs.EditLemmas.{edited_facts_once}
 use Rattle.dl_core.proofs.EpochLemmas.{some_none, some_some, covering-push, last_is_found, number_is, current_numbered}
 use Rattle.dl_core.proofs.FactLemmas.{count_facts}
 use Rattle.dl_core.proofs.RunLemmas.{legal_stands}

@@ -12,7 +12,8 @@ ghost use Rattle.dl_core.specs.History.{Load, Entry, version_of, axioms_at, fact
 ghost use Rattle.dl_core.specs.Legal.{Begins, Reader, ReaderStandsFor};
 ghost use Rattle.dl_core.specs.Loading.{IsFactIn};
 ghost use Rattle.dl_core.specs.Next.{Numbering, IsNumbering};
-ghost use Rattle.dl_core.specs.Root.{Root, IsLoad, AreKnown, epochs, shard, pin_in};
+ghost use Rattle.dl_core.specs.Root.{Root, IsLoad, epochs, shard, pin_in};
+ghost use Rattle.dl_edits.specs.Signatures.{AreKnown};
 ghost use Rattle.dl_core.specs.declared.book.Book.{Book};
 
 /// What a version has is the same by each longer list of entries.

@@ -1,7 +1,7 @@
 use Rattle.std.proofs.Common.{◌+◌, true, false, length, sym, ap, subst, ◌∙◌}
 use Rattle.dl_core.specs.Root.{Root}
 use Rattle.dl_core.specs.Changes.{turned, AreGone}
-use Rattle.dl_core.specs.Edits.{edited_facts}
+use Rattle.dl_edits.specs.Edits.{edited_facts}
 use Rattle.dl_core.specs.Next.{root_facts, committed, refused_or}
 use Rattle.dl_core.specs.Committing.{IsCommit}
 use Rattle.dl_event.specs.declared.reply.Reply.{Reply}

@@ -2,7 +2,7 @@ use Rattle.std.proofs.Common.{◌≡◌, map, MatchResult, Err, sym, subst}
 use Rattle.std.specs.Arc.{arc_value}
 use Rattle.std.proofs.lemmas.Result.{err_from_is_err_and}
 use Rattle.dl_core.specs.Loading.{IsLoaded, IsLoadFault, load_with}
-use Rattle.dl_core.proofs.FewLemmas.{predicates_few}
+use Rattle.dl_edits.proofs.FewLemmas.{predicates_few}
 use Rattle.dl_core.proofs.LoadLemmas.{is_load, made_held, made_loaded}
 use Rattle.dl_core.proofs.first_root.load_sets.Goals as goal
 

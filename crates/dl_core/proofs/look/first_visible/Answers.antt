@@ -7,7 +7,7 @@ use Rattle.std.proofs.lemmas.List.Elements.{filter-append}
 use Rattle.dl_row.specs.Lists.{ordered}
 use Rattle.dl_row.specs.Rows.{row_cmp, visible}
 use Rattle.dl_row.proofs.RowLemmas.{rows_linear}
-use Rattle.dl_core.proofs.OrderedLemmas.{InOrder-filter}
+use Rattle.dl_edits.proofs.OrderedLemmas.{InOrder-filter}
 use Rattle.dl_core.proofs.LookLemmas.{shards_more, shard_up, first_more, take_all, found_cut}
 use Rattle.dl_core.proofs.look.first_visible.Goals as goal
 use Rattle.dl_core.proofs.look.first_visible.Goals.{then-n-len, else-n-len}

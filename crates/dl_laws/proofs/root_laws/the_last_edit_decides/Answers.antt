@@ -1,4 +1,4 @@
-use Rattle.dl_core.proofs.EditLemmas.{edits_decide}
+use Rattle.dl_edits.proofs.EditLemmas.{edits_decide}
 use Rattle.dl_laws.proofs.root_laws.the_last_edit_decides.Goals as goal
 
 pub returns : goal.returns

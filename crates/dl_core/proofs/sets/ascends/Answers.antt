@@ -1,5 +1,0 @@
-use Rattle.dl_core.proofs.SetOfLemmas.{ascending_from}
-use Rattle.dl_core.proofs.sets.ascends.Goals as goal
-
-pub returns : goal.returns
-returns g c = ascending_from g.met.T.Ord.total c.args.items.now c.loop-i.i c.loop-i-test.false c.loop-i.invariant

@@ -1,0 +1,13 @@
+pub mod CountLemmas
+pub mod OrderedLemmas
+pub mod SetLemmas
+pub mod EditLemmas
+pub mod AscendLemmas
+pub mod FewLemmas
+pub mod KnownLemmas
+pub mod AuxiliaryLemmas
+pub mod SetOfLemmas
+pub mod SaidLemmas
+pub mod KeyLemmas
+pub mod AxiomEditLemmas
+pub mod SignatureEditLemmas
