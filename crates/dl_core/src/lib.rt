@@ -28,9 +28,7 @@ mod root;
 mod root_reads;
 
 pub use book::Book;
-pub use dl_event::{
-    Answer, AskFault, Edit, Event, Item, Looked, Pin, Placed, Refusal, Reply,
-};
+pub use dl_event::{Answer, AskFault, Edit, Event, Item, Looked, Pin, Placed, Refusal, Reply};
 pub use fault::LoadFault;
 pub use first_root::{MAX_ROWS, load};
 pub use next_root::step;

@@ -8,8 +8,8 @@ ghost use Rattle.dl_edits.specs.Decided.{is_axiom};
 ghost use Rattle.dl_edits.specs.Edits.{axioms_with, edited_axioms as axioms_after};
 ghost use Rattle.dl_event.specs.Auxiliaries.{ItemHasNoAuxiliary};
 
-use dl_event::{Edit, Item};
 use dl_epoch::{copied_axiom, copied_axioms};
+use dl_event::{Edit, Item};
 use dl_terms::{Axiom, List, NoMemory, axioms_are_ordered};
 use std::alloc::Global;
 use std::collections::BTreeSet;

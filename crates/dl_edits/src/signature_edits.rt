@@ -6,8 +6,8 @@ ghost use Rattle.dl_epoch.specs.Known.{IsAxiomIn, IsSignature};
 ghost use Rattle.dl_edits.specs.Edits.{edited_axioms, edited_signature as signature_after};
 ghost use Rattle.dl_edits.specs.Names.{item_classes, item_properties, added_classes, added_properties};
 
-use dl_event::{Edit, Item};
 use dl_epoch::{copied_signature, push_axiom, push_fact};
+use dl_event::{Edit, Item};
 use dl_terms::{NoMemory, Signature, set_of};
 use std::alloc::Global;
 
