@@ -6,3 +6,7 @@ pub mod OrderLemmas
 pub mod DepthFirstLemmas
 pub mod RunLemmas
 pub mod LawLemmas
+pub mod PlaceLemmas
+pub mod LoopLemmas
+pub mod GrowLemmas
+pub mod NameLemmas

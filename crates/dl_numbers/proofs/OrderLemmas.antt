@@ -40,7 +40,7 @@ more_edges : (e : ℕ × ℕ) (edges : List (ℕ × ℕ)) (a b : ℕ) → Chain 
 more_edges e edges a b empty = empty
 more_edges e edges a b (step {b = m} s rest) = step (Contains-later e (a, m) edges s) (more_edges e edges m b rest)
 
-chain_decided : (edges : List (ℕ × ℕ)) (a b : ℕ) → IsDecided (Chain (Leads edges) a b)
+pub chain_decided : (edges : List (ℕ × ℕ)) (a b : ℕ) → IsDecided (Chain (Leads edges) a b)
 chain_decided [] a b = elim (cases_eq a b) [
   | inl same ↦ inl (subst (Chain (Leads []) a) same empty)
   | inr other ↦ inr (λ c. other (no_edge a b c))

@@ -71,7 +71,7 @@ module _ (names : List ℕ) (Below : ℕ → ℕ → Type 0) where
 
   -- ---- a class has one parent
 
-  one_parent : (a b c : ℕ) → IsParent names Below b a → IsParent names Below c a → b ≡ c
+  pub one_parent : (a b c : ℕ) → IsParent names Below b a → IsParent names Below c a → b ≡ c
   one_parent a b c p q = le_antisymm (p.first c q.above) (q.first b p.above)
 
   pub one_least : (a b : ℕ) → Contains names a → Contains names b → IsLeast names Below a → IsLeast names Below b → AreEquivalent names Below a b → a ≡ b

@@ -2,3 +2,4 @@ pub mod Rule
 pub mod DepthFirst
 pub mod Numbers
 pub mod Runs
+pub mod Places

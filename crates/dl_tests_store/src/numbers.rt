@@ -1,8 +1,8 @@
 ghost use Rattle.std.specs.Prelude.{◌≡◌, ◌≤◌, length};
 
 use dl_intervals::ascends;
-use dl_numbers::Numbering;
-use dl_reach::Graph;
+use dl_numbers::{Numbering, depth_first};
+use dl_reach::{Graph, ends_below, fits};
 use dl_terms::NoMemory;
 use std::alloc::Global;
 
@@ -56,4 +56,35 @@ fn has_numbers(alloc: Global, names: &[u32], others: &[u32]) -> bool {
 fn names_are_numbered_in_their_order(rt: HostRuntime) {
     assert!(rt; has_numbers(rt.alloc(), &[0, 3, 4, 9], &[1, 2, 5, 8, 10, u32::MAX]));
     assert!(rt; has_numbers(rt.alloc(), &[], &[0, 1]));
+}
+
+/// The places of a graph in depth-first order, where it is a graph.
+fn order_of(alloc: Global, nodes: u32, edges: &[(u32, u32)]) -> Result<Option<Vec<u32>>, NoMemory> {
+    if !fits(nodes) || !ends_below(nodes, edges) {
+        return Ok(None);
+    }
+    let Ok(graph) = Graph::new(alloc, nodes, edges) else {
+        return Err(NoMemory);
+    };
+    let Ok(order) = graph.closure(alloc) else {
+        return Err(NoMemory);
+    };
+    Ok(Some(depth_first(alloc, &order)?))
+}
+
+/// Whether a graph has this depth-first order.
+fn has_order(alloc: Global, nodes: u32, edges: &[(u32, u32)], wanted: &[u32]) -> bool {
+    match order_of(alloc, nodes, edges) {
+        Ok(Some(places)) => places.as_slice() == wanted,
+        _ => false,
+    }
+}
+
+#[test]
+fn places_stand_in_depth_first_order(rt: HostRuntime) {
+    // 0 is below 1 and 2, and 3 below 1: the parent of 0 is the lesser of the two.
+    assert!(rt; has_order(rt.alloc(), 4, &[(0, 1), (0, 2), (3, 1)], &[1, 0, 3, 2]));
+    // 0 and 2 are one class, and 1 is below it.
+    assert!(rt; has_order(rt.alloc(), 3, &[(0, 2), (2, 0), (1, 0)], &[0, 2, 1]));
+    assert!(rt; has_order(rt.alloc(), 0, &[], &[]));
 }

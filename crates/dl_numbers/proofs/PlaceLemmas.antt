@@ -1,0 +1,192 @@
+-- Places of names: lists that grow place by place, classes by their least places, and the parent that a search finds.
+use Rattle.std.proofs.Common.{Bool, true, false, not, eqb, IsTrue, true≢false, ◌≡◌, ℕ, zero, suc, ◌+◌, ◌<◌, ◌≤◌, ◌↔◌, ◌⊎◌, inl, inr, List, [], ◌∷◌, ◌++◌, reverse, length, get_or, Option, Some, None, MatchOption, refl, sym, ap, subst, ◌∙◌, le_antisymm, append_assoc, arith}
+use Rattle.std.specs.List.{All, Contains}
+use Rattle.std.specs.List.Sorted.{IsStrictlyIncreasing}
+use Rattle.std.proofs.lemmas.Bool.{cases_lt, eq-eqb, eqb-true}
+use Rattle.std.proofs.lemmas.List.{get_or_default}
+use Rattle.std.proofs.lemmas.List.Elements.{Contains-append_left, Contains-append_right, Contains-append_cases}
+use Rattle.std.proofs.lemmas.List.Kept.{AllPairs-from_increasing}
+use Rattle.dl_terms.proofs.MemberLemmas.{Contains-nil, Contains-cons, Contains-first, Contains-later, Contains-one}
+use Rattle.dl_reach.specs.Chain.{Chain}
+use Rattle.dl_reach.specs.Digraph.{Digraph, IsEdge, AreConnected}
+use Rattle.dl_reach.proofs.Chains.{Chain-refl, Chain-trans}
+use Rattle.dl_numbers.specs.DepthFirst.{AreExactly, AreEquivalent, IsLeast, IsLeastAbove, IsParent, IsStrictlyAbove}
+use Rattle.dl_numbers.specs.Places.{places, Reaches, IsAbove, IsLowest, IsFirstLowest, AreLeaders, AreParents}
+use Rattle.dl_numbers.proofs.OrderLemmas.{IsDecided, chain_decided}
+
+pub in_places : (n k : ℕ) → Contains (places n) k ↔ (k < n)
+in_places zero k = (λ c. absurd (Contains-nil k c), λ h. absurd (omega (arith, h)))
+in_places (suc n) k = (
+  λ c. elim (Contains-append_cases (places n) (n ∷ []) k c) [
+    | inl left ↦ let h = (in_places n k).0 left in omega (arith, h)
+    | inr right ↦ let e = Contains-one n k right in omega (arith, e)
+  ],
+  λ h. elim (cases_lt k n) [
+    | inl lt ↦ Contains-append_left (places n) (n ∷ []) k ((in_places n k).1 lt)
+    | inr le ↦ let e : n ≡ k = omega (arith, h, le) in
+        Contains-append_right (places n) (n ∷ []) k (subst (Contains (n ∷ [])) e (Contains-first n []))
+  ],
+)
+
+-- ---- lists that grow place by place
+
+pub rises_more : (xs : List ℕ) (i : ℕ) → IsStrictlyIncreasing xs → ((k : ℕ) → Contains xs k → k < i) → IsStrictlyIncreasing (xs ++ i ∷ [])
+rises_more [] i up small k h = absurd (omega (arith, h))
+rises_more (x ∷ []) i up small zero h = small x (Contains-first x [])
+rises_more (x ∷ []) i up small (suc k) h = absurd (omega (arith, h))
+rises_more (x ∷ y ∷ xs) i up small zero h = up zero (omega arith)
+rises_more (x ∷ y ∷ xs) i up small (suc k) h =
+    let next : suc k + 1 ≡ suc (k + 1) = omega arith in
+    subst (λ j. get_or (y ∷ xs ++ i ∷ []) k 0 < get_or (x ∷ y ∷ xs ++ i ∷ []) j 0) (sym next)
+    (rises_more (y ∷ xs) i (λ j l. subst (λ m. get_or (y ∷ xs) j 0 < get_or (x ∷ y ∷ xs) m 0) (let e : suc j + 1 ≡ suc (j + 1) = omega arith in e) (up (suc j) (omega (arith, l))))
+    (λ j c. small j (Contains-later x j (y ∷ xs) c)) k (omega (arith, h)))
+
+module _ (P : ℕ → Type 0) where
+  pub exactly_none : AreExactly (places 0) P []
+  exactly_none = record {
+    ascending = λ k h. absurd (omega (arith, h));
+    exact = λ n. (λ c. absurd (Contains-nil n c), λ h. absurd (Contains-nil n h.0));
+  }
+
+  more_places : (i k : ℕ) → Contains (places i) k → Contains (places (i + 1)) k
+  more_places i k c = (in_places (i + 1) k).1 (let h = (in_places i k).0 c in omega (arith, h))
+
+  last_or_before : (i k : ℕ) → Contains (places (i + 1)) k → (i ≡ k) ⊎ Contains (places i) k
+  last_or_before i k c = let h = (in_places (i + 1) k).0 c in elim (cases_lt k i) [
+    | inl lt ↦ inr ((in_places i k).1 lt)
+    | inr le ↦ inl (omega (arith, h, le))
+  ]
+
+  pub exactly_more : (i : ℕ) (found : List ℕ) → AreExactly (places i) P found → P i → AreExactly (places (i + 1)) P (found ++ i ∷ [])
+  exactly_more i found are p = record {
+    ascending = rises_more found i are.ascending (λ k c. (in_places i k).0 ((are.exact k).0 c).0);
+    exact = λ k. (
+      λ c. elim (Contains-append_cases found (i ∷ []) k c) [
+        | inl left ↦ let h = (are.exact k).0 left in (more_places i k h.0, h.1)
+        | inr right ↦ let e = Contains-one i k right in ((in_places (i + 1) k).1 (omega (arith, e)), subst P e p)
+      ],
+      λ h. elim (last_or_before i k h.0) [
+        | inl e ↦ Contains-append_right found (i ∷ []) k (subst (Contains (i ∷ [])) e (Contains-first i []))
+        | inr c ↦ Contains-append_left found (i ∷ []) k ((are.exact k).1 (c, h.1))
+      ],
+    );
+  }
+
+  pub exactly_pass : (i : ℕ) (found : List ℕ) → AreExactly (places i) P found → (P i → ⊥) → AreExactly (places (i + 1)) P found
+  exactly_pass i found are never = record {
+    ascending = are.ascending;
+    exact = λ k. (
+      λ c. let h = (are.exact k).0 c in (more_places i k h.0, h.1),
+      λ h. elim (last_or_before i k h.0) [ inl e ↦ absurd (never (subst P (sym e) h.1)) | inr c ↦ (are.exact k).1 (c, h.1) ],
+    );
+  }
+
+-- ---- classes by their least places
+
+module _ (order : Digraph) (leaders : List ℕ) (are : AreLeaders order leaders) where
+  abbrev leader : ℕ → ℕ
+  leader k = get_or leaders k 0
+
+  pub leader_within : (k : ℕ) → k < order.nodes → leader k < order.nodes
+  leader_within k h = let le = are.least k h k (Chain-refl (IsEdge order) k, Chain-refl (IsEdge order) k) in omega (arith, le, h)
+
+  joined : (a b c : ℕ) → AreConnected order a b → AreConnected order b c → AreConnected order a c
+  joined a b c p q = (Chain-trans (IsEdge order) a b c p.0 q.0, Chain-trans (IsEdge order) c b a q.1 p.1)
+
+  -- connected places have one leader
+  pub same_leader : (a b : ℕ) → a < order.nodes → b < order.nodes → AreConnected order a b → leader a ≡ leader b
+  same_leader a b ha hb c = le_antisymm
+      (are.least a ha (leader b) (joined a b (leader b) c (are.connected b hb)))
+      (are.least b hb (leader a) (joined b a (leader a) (c.1, c.0) (are.connected a ha)))
+
+  pub one_class : (a b : ℕ) → a < order.nodes → b < order.nodes → leader a ≡ leader b → AreConnected order a b
+  one_class a b ha hb e =
+      let p = are.connected a ha in
+      let q = are.connected b hb in
+      joined a (leader a) b p (subst (λ l. AreConnected order l b) (sym e) (q.1, q.0))
+
+  pub is_least : (k : ℕ) → k < order.nodes → leader k ≡ k → IsLeast (places order.nodes) (Reaches order) k
+  is_least k h e = record { least = λ b c m. subst (λ l. l ≤ b) e (are.least k h b m) }
+
+  pub least_is : (k : ℕ) → k < order.nodes → IsLeast (places order.nodes) (Reaches order) k → leader k ≡ k
+  least_is k h is = le_antisymm (are.least k h k (Chain-refl (IsEdge order) k, Chain-refl (IsEdge order) k))
+      (is.least (leader k) ((in_places order.nodes (leader k)).1 (leader_within k h)) (are.connected k h))
+
+  pub above_told : (b a : ℕ) → b < order.nodes → a < order.nodes → Reaches order a b → (leader b ≡ leader a → ⊥) → IsAbove order b a
+  above_told b a hb ha up other = (up, λ back. other (same_leader b a hb ha (back, up)))
+
+  pub told_above : (b a : ℕ) → b < order.nodes → a < order.nodes → IsAbove order b a → leader b ≡ leader a → ⊥
+  told_above b a hb ha is e = is.1 (one_class b a hb ha e).0
+
+  pub test_above : (b a : ℕ) → b < order.nodes → a < order.nodes → Reaches order a b → IsTrue (not (eqb (leader b) (leader a))) ↔ IsAbove order b a
+  test_above b a hb ha up = by (eqb (leader b) (leader a)) refl
+    where
+      by : (t : Bool) → eqb (leader b) (leader a) ≡ t → IsTrue (not t) ↔ IsAbove order b a
+      by true e = (λ h. absurd (true≢false (sym h)), λ is. absurd (told_above b a hb ha is (eqb-true (leader b) (leader a) e)))
+      by false e = (λ h. above_told b a hb ha up (λ same. true≢false (sym (eq-eqb (leader b) (leader a) same) ∙ e)), λ is. refl)
+
+-- ---- the first of the lowest
+
+module _ (order : Digraph) (above : List ℕ) where
+  abbrev NoneBefore : ℕ → Type 0
+  NoneBefore i = (k : ℕ) → k < i → IsLowest order above (get_or above k 0) → ⊥
+
+  pub first_found : IsStrictlyIncreasing above → (i : ℕ) → i < length above → NoneBefore i → IsLowest order above (get_or above i 0)
+      → IsFirstLowest order above (get_or above i 0)
+  first_found up i h none_before lowest = record {
+    among = (i, h, get_or_default above i (get_or above i 0) 0 h);
+    lowest = lowest;
+    first = λ b c l. elim (cases_lt c.0 i) [
+      | inl lt ↦ absurd (none_before c.0 lt (subst (IsLowest order above) (sym (get_or_default above c.0 0 b c.1 ∙ c.2)) l))
+      | inr le ↦ by b c (cases_lt i c.0) le
+    ];
+  }
+    where
+      by : (b : ℕ) (c : Contains above b) → (i < c.0) ⊎ (c.0 ≤ i) → i ≤ c.0 → get_or above i 0 ≤ b
+      by b c (inl lt) le =
+          let less = AllPairs-from_increasing above up i c.0 0 lt c.1 in
+          let is = get_or_default above c.0 0 b c.1 ∙ c.2 in
+          omega (arith, less, is)
+      by b c (inr ge) le =
+          let same : i ≡ c.0 = omega (arith, ge, le) in
+          let is : get_or above i 0 ≡ b = ap (λ k. get_or above k 0) same ∙ get_or_default above c.0 0 b c.1 ∙ c.2 in
+          omega (arith, is)
+
+  pub none_more : (i : ℕ) → NoneBefore i → (IsLowest order above (get_or above i 0) → ⊥) → NoneBefore (i + 1)
+  none_more i none_before never k h l = elim (cases_lt k i) [
+    | inl lt ↦ none_before k lt l
+    | inr le ↦ let same : k ≡ i = omega (arith, h, le) in never (subst (λ j. IsLowest order above (get_or above j 0)) same l)
+  ]
+
+  pub none_at_all : (i : ℕ) → length above ≤ i → NoneBefore i → (b : ℕ) → Contains above b → IsLowest order above b → ⊥
+  none_at_all i h none_before b c l = none_before c.0 (let k = c.1 in omega (arith, h, k)) (subst (IsLowest order above) (sym (get_or_default above c.0 0 b c.1 ∙ c.2)) l)
+
+-- ---- the parent
+
+module _ (order : Digraph) (place : ℕ) (above : List ℕ) (are : AreExactly (places order.nodes) (λ other. IsAbove order other place) above) where
+  lowest_least : (b : ℕ) → Contains above b → IsLowest order above b → IsLeastAbove (places order.nodes) (Reaches order) b place
+  lowest_least b h lowest = let is = (are.exact b).0 h in record {
+    among = is.0;
+    above = is.1;
+    least = λ c hc sc down. elim (chain_decided order.edges b c) [
+      | inl up ↦ up
+      | inr never ↦ absurd (lowest c ((are.exact c).1 (hc, sc)) (down, never))
+    ];
+  }
+
+  least_lowest : (b : ℕ) → IsLeastAbove (places order.nodes) (Reaches order) b place → Contains above b × IsLowest order above b
+  least_lowest b is = ((are.exact b).1 (is.among, is.above), λ c h over. let k = (are.exact c).0 h in over.1 (is.least c k.0 k.1 over.0))
+
+  pub parent_found : (b : ℕ) → IsFirstLowest order above b → IsParent (places order.nodes) (Reaches order) b place
+  parent_found b is = record {
+    above = lowest_least b is.among is.lowest;
+    first = λ c l. let k = least_lowest c l in is.first c k.0 k.1;
+  }
+
+  pub no_parent_found : ((b : ℕ) → Contains above b → IsLowest order above b → ⊥) → (p : ℕ) → IsParent (places order.nodes) (Reaches order) p place → ⊥
+  no_parent_found never p is = let k = least_lowest p is.above in never p k.0 k.1
+
+  pub parent_told : (found : Option ℕ) → MatchOption found ((b : ℕ) → Contains above b → IsLowest order above b → ⊥) (λ b. IsFirstLowest order above b)
+      → MatchOption found ((p : ℕ) → IsParent (places order.nodes) (Reaches order) p place → ⊥) (λ p. IsParent (places order.nodes) (Reaches order) p place)
+  parent_told None never = no_parent_found never
+  parent_told (Some b) is = parent_found b is
