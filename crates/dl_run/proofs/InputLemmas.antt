@@ -2,9 +2,7 @@
 use Rattle.std.proofs.Common.{◌≡◌, ◌↔◌, is_some, ℕ, ◌<◌, ◌≤◌, List, [], ◌∷◌, ◌++◌, length, map, flat_map, get_or, slice_index, slice_get, Option, Some, None, subst, ap, sym, ◌∙◌, refl, arith, true≢false}
 use Rattle.std.specs.Ordering.{nat_cmp}
 use Rattle.std.specs.declared.cmp.Ordering.{Ordering}
-use Rattle.std.specs.declared.cmp.Ordering.TheVariants.{Less}
-use Rattle.std.specs.List.{All, AllByRecursion}
-use Rattle.std.specs.List.Sorted.{IsStrictlySortedBy}
+use Rattle.std.specs.List.{All}
 use Rattle.std.proofs.lemmas.List.{length-map, map-append}
 use Rattle.std.proofs.lemmas.List.Elements.{All-append, All-contains, All-weaker, Contains-get_or}
 use Rattle.dl_names.specs.NameList.{Text, has_name, max_names}
@@ -123,20 +121,6 @@ AreInput-unique {third} {shards} {o} {d} {l} {base} {other} {value} {also} deter
     )
 
 -- ---- sets by numbers
-
--- the set of a list by an order that agrees with another one
-module _ {A : Type 0} (cmp by : A → A → Ordering) (same : (x y : A) → cmp x y ≡ by x y) where
-  above : (x : A) (xs : List A) → AllByRecursion (λ y. cmp x y ≡ Less) xs → AllByRecursion (λ y. by x y ≡ Less) xs
-  above x [] h = tt
-  above x (y ∷ ys) h = (sym (same x y) ∙ h.0, above x ys h.1)
-
-  ascends : (xs : List A) → IsStrictlySortedBy cmp xs → IsStrictlySortedBy by xs
-  unfolding IsStrictlySortedBy
-  ascends [] h = tt
-  ascends (x ∷ xs) h = (above x xs h.0, ascends xs h.1)
-
-  pub IsSetOf-same : (set items : List A) → IsSetOf cmp set items → IsSetOf by set items
-  IsSetOf-same set items of = record { ascending = ascends set of.ascending; members = of.members }
 
 module _ (met names : List Text) (ranks : List ℕ) (frozen : IsFrozen met names ranks) where
   -- ranks of places are numbers of names

@@ -4,9 +4,9 @@ ghost use Rattle.dl_run.specs.Input.{AreRead, IsNumbered};
 ghost use Rattle.dl_run.specs.Numbered.{base_of, ArePlaced, IsBaseStop, IsMade};
 
 use crate::base::NumberedBase;
-use crate::sets::{axiom_set, fact_set};
 use crate::signature::signature_of;
 use crate::stop::Stop;
+use dl_edits::{axiom_set, fact_set};
 use dl_names::{NameSet, OWL_NOTHING, Ranks};
 use dl_owl::{Document, read_ontology};
 use dl_terms::{Fact, List, NoMemory};

@@ -10,7 +10,6 @@ mod laws;
 mod output;
 mod program;
 mod refusals;
-mod sets;
 mod signature;
 mod status;
 mod stop;

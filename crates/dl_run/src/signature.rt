@@ -4,7 +4,7 @@ ghost use Rattle.std.specs.List.{flat_map};
 ghost use Rattle.dl_epoch.specs.Predicates.{axiom_classes, axiom_properties, fact_classes, fact_properties};
 ghost use Rattle.dl_run.specs.Signature.{IsSignatureOf};
 
-use crate::sets::number_set;
+use dl_edits::number_set;
 use dl_epoch::{push_axiom, push_fact};
 use dl_terms::{Axiom, Fact, List, NoMemory, Signature};
 
