@@ -1,4 +1,4 @@
--- What is below is within, in each structure that accepts the axioms.
+-- What is below is within, in each structure that satisfies the inclusions of the axioms.
 use Rattle.std.proofs.Common.{◌≡◌, Some, List, subst}
 use Rattle.std.specs.List.{All, Contains}
 use Rattle.std.specs.Option.{MatchOption}
@@ -12,6 +12,7 @@ use Rattle.dl_terms.specs.declared.role.Basic.{Basic}
 use Rattle.dl_terms.specs.declared.role.Negative.{Negative}
 use Rattle.dl_terms.specs.declared.axiom.Axiom.{Axiom}
 use Rattle.dl_models.specs.Meaning.{Structure, IsWithin, RoleIsWithin, Accepts}
+use Rattle.dl_models.specs.Inclusions.{SatisfiesInclusions}
 use Rattle.dl_models.proofs.ListLemmas.{All-flat_map, Contains-picked}
 use Rattle.dl_models.proofs.RowLemmas.{inverse-links, NegativeHolds, RowHolds, rows_hold}
 
@@ -54,17 +55,22 @@ module _ (i : Structure) where
         let w = Contains-picked as_concept_in (rows_of axioms) (b, c) h in
         subst (λ o. MatchOption o (Unit {0}) (λ p. IsWithin i p.0 p.1)) w.2 (concept_part w.0 (row_holds w.0 w.1))
 
+    -- who accepts axioms satisfies what they include
+    pub satisfied : SatisfiesInclusions i axioms
+    satisfied = record { roles = role_included; concepts = concept_included }
+
+  module _ (axioms : List Axiom) (is : SatisfiesInclusions i axioms) where
     role_step : (r s : Role) → RoleStep axioms r s → RoleIsWithin i r s
-    role_step r s (RoleStep.inclusion c) = role_included r s c
+    role_step r s (RoleStep.inclusion c) = is.roles r s c
     role_step r s (RoleStep.inverted c) =
-        λ x y e f k. (inverse-links i s y x).0 (role_included _ _ c y x f e ((inverse-links i r y x).1 k))
+        λ x y e f k. (inverse-links i s y x).0 (is.roles _ _ c y x f e ((inverse-links i r y x).1 k))
 
     pub role_below : {r s : Role} → RoleBelow axioms r s → RoleIsWithin i r s
     role_below empty = λ x y e f k. k
     role_below (step h c) = let rest = role_below c in λ x y e f k. rest x y e f (role_step _ _ h x y e f k)
 
     concept_step : (b c : Basic) → ConceptStep axioms b c → IsWithin i b c
-    concept_step b c (ConceptStep.inclusion h) = concept_included b c h
+    concept_step b c (ConceptStep.inclusion h) = is.concepts b c h
     concept_step b c (ConceptStep.some_of d) = λ x e k. (k.0, k.1, role_below d x k.0 e k.1 k.2)
 
     pub concept_below : {b c : Basic} → ConceptBelow axioms b c → IsWithin i b c

@@ -1,14 +1,13 @@
 -- The canonical structure against the meaning of axioms: where nothing is broken it accepts each of them.
-use Rattle.std.proofs.Common.{◌≡◌, ℕ, zero, suc, ◌↔◌, Bool, true, false, List, [], ◌∷◌, Option, Some, None, refl, sym, subst, ⊎_elim, arith}
+use Rattle.std.proofs.Common.{◌≡◌, ℕ, zero, suc, ◌↔◌, Bool, true, false, List, [], ◌∷◌, Option, Some, None, map, refl, sym, subst, ⊎_elim, arith}
 use Rattle.std.specs.List.{All, Contains, flat_map, filter_map}
-use Rattle.std.specs.Option.{MatchOption}
-use Rattle.std.proofs.lemmas.List.Elements.{All-head, All-tail, All-weaker, All-contains, All-contains_itself, Contains-append_left, Contains-append_right}
+use Rattle.std.proofs.lemmas.List.Elements.{All-head, All-tail, All-weaker, All-contains, All-contains_itself}
 use Rattle.dl_terms.specs.Chain.{empty}
 use Rattle.dl_terms.specs.Roles.{named, inverse_of, auxiliary_of}
 use Rattle.dl_terms.specs.Below.{RoleStep, RoleBelow, ConceptBelow}
 use Rattle.dl_terms.specs.Structure.{by_class, Element, individual, child, IsElement, HoldsAt, at_name, at_end, Joins, by_fact, by_fact_turned, to_child, from_child}
-use Rattle.dl_terms.specs.Answers.{AtomHolds as HoldsOfElements}
-use Rattle.dl_terms.specs.NormalForm.{Row, role_in, concept_in, never, ring, pairs, part_rows, axiom_rows, rows_of, as_role_in, as_concept_in, as_negative, axiom_negatives, nothing_negative, negatives}
+use Rattle.dl_terms.specs.Answers.{value_of, AtomHolds as HoldsOfElements, IsCertain}
+use Rattle.dl_terms.specs.NormalForm.{Row, role_in, concept_in, never, ring, pairs, part_rows, axiom_rows, rows_of, as_role_in, as_concept_in, as_negative, axiom_negatives, nothing_negative}
 use Rattle.dl_terms.specs.Broken.{turned_atom, role_name, role_atom, basic_atom, IsMet, NothingIsBroken}
 use Rattle.dl_terms.specs.Auxiliaries.{IsNamed, RoleHasNoAuxiliary, BasicHasNoAuxiliary, PartHasNoAuxiliary, HasNoAuxiliary}
 use Rattle.dl_terms.specs.declared.role.Base.{Base}
@@ -24,14 +23,18 @@ use Rattle.dl_terms.specs.declared.axiom.Axiom.{Axiom}
 use Rattle.dl_terms.specs.declared.axiom.Axiom.TheVariants.{SubClass, EquivalentClasses, DisjointClasses, SubRole, EquivalentRoles, DisjointRoles, InverseRoles, Domain, Range, Symmetric, Asymmetric, Irreflexive}
 use Rattle.dl_terms.specs.declared.axiom.Fact.{Fact}
 use Rattle.dl_terms.specs.declared.axiom.Fact.TheVariants as fact
-use Rattle.dl_terms.specs.declared.query.Term.TheVariants.{Var}
+use Rattle.dl_terms.specs.declared.query.Term.{Term}
+use Rattle.dl_terms.specs.declared.query.Term.TheVariants.{Var, Name}
 use Rattle.dl_terms.specs.declared.query.Atom.{Atom}
+use Rattle.dl_terms.specs.declared.query.Atom.TheVariants as atom
+use Rattle.dl_terms.specs.declared.query.Query.{Query}
 use Rattle.dl_terms.proofs.MemberLemmas.{Contains-first, Contains-one, Contains-two}
 use Rattle.dl_terms.proofs.BelowLemmas.{inverse_of-inverse_of, RoleBelow-trans, RoleBelow-inverse, ConceptBelow-trans, ConceptBelow-refl, RoleBelow-refl, ConceptBelow-inclusion, Chain-one}
 use Rattle.dl_terms.proofs.StructureLemmas.{HoldsAt-below, IsElement-child, HoldsAt-Joins}
-use Rattle.dl_models.specs.Meaning.{turned, BaseLinks, RoleLinks, IsInBasic, IsInPart, IsWithin, IsApart, RoleIsWithin, RoleIsApart, FactHolds, Accepts, IsModel}
+use Rattle.dl_models.specs.Meaning.{turned, BaseLinks, RoleLinks, IsInBasic, IsInPart, IsWithin, IsApart, RoleIsWithin, RoleIsApart, FactHolds, NothingIsEmpty, StandsFor, AtomHolds, GivesHead, QueryHolds, Accepts, IsModel}
 use Rattle.dl_models.specs.Structures.{canonical}
-use Rattle.dl_models.proofs.ListLemmas.{Contains-flat_map, Contains-filter_map, Contains-map, All-of_map, All-of_flat_map, AllPairs-pairs, ring-leads}
+use Rattle.dl_models.proofs.HomomorphismLemmas.{IsHomomorphism}
+use Rattle.dl_models.proofs.ListLemmas.{Contains-flat_map, Contains-filter_map, Contains-map, All-split, All-of_map, All-of_flat_map, AllPairs-pairs, ring-leads}
 
 -- three elements as the values of variables
 abbrev pub values : Element → Element → Element → ℕ → Element
@@ -240,46 +243,92 @@ module _ (axioms : List Axiom) (facts : List Fact) where
       let unmet = All-head Says (never (NoLoop r)) [] says in
       λ x e j. unmet (loop-met r h x e ((links-joins r h x x).0 j))
 
-  -- ---- where nothing is broken, all rows hold
+  -- ---- an axiom of which no negative is met
 
-  module _ (nothing : Option ℕ) (no_auxiliary : All HasNoAuxiliary axioms) (whole : NothingIsBroken axioms facts nothing) where
-    abbrev NotMet : Option Axiom × Negative → Type 0
-    NotMet n = ¬ IsMet axioms facts n.1
+  abbrev NotMet : Option Axiom × Negative → Type 0
+  NotMet n = ¬ IsMet axioms facts n.1
 
-    row_says : (a : Axiom) → Contains axioms a → (row : Row) → Contains (axiom_rows a) row → Says row
-    row_says a c (role_in r s) h =
-        Chain-one (RoleStep.inclusion (Contains-filter_map as_role_in (rows_of axioms) (role_in r s) (r, s) (Contains-flat_map axiom_rows axioms a (role_in r s) c h) refl))
-    row_says a c (concept_in b d) h =
-        ConceptBelow-inclusion axioms
-        (Contains-filter_map as_concept_in (rows_of axioms) (concept_in b d) (b, d) (Contains-flat_map axiom_rows axioms a (concept_in b d) c h) refl)
-    row_says a c (never n) h =
-        All-contains NotMet (negatives axioms nothing) (Some a, n) whole
-        (Contains-append_left (flat_map axiom_negatives axioms) (nothing_negative nothing) (Some a, n)
-        (Contains-flat_map axiom_negatives axioms a (Some a, n) c
-        (Contains-map (λ n. (Some a, n)) (filter_map as_negative (axiom_rows a)) n
-        (Contains-filter_map as_negative (axiom_rows a) (never n) n h refl))))
+  row_says : (a : Axiom) → Contains axioms a → All NotMet (axiom_negatives a) → (row : Row) → Contains (axiom_rows a) row → Says row
+  row_says a c unmet (role_in r s) h =
+      Chain-one (RoleStep.inclusion (Contains-filter_map as_role_in (rows_of axioms) (role_in r s) (r, s) (Contains-flat_map axiom_rows axioms a (role_in r s) c h) refl))
+  row_says a c unmet (concept_in b d) h =
+      ConceptBelow-inclusion axioms
+      (Contains-filter_map as_concept_in (rows_of axioms) (concept_in b d) (b, d) (Contains-flat_map axiom_rows axioms a (concept_in b d) c h) refl)
+  row_says a c unmet (never n) h =
+      All-contains NotMet (axiom_negatives a) (Some a, n) unmet
+      (Contains-map (λ n. (Some a, n)) (filter_map as_negative (axiom_rows a)) n (Contains-filter_map as_negative (axiom_rows a) (never n) n h refl))
 
-    pub all_accepted : All (Accepts (canonical axioms facts)) axioms
-    all_accepted =
-        All-weaker (Contains axioms) (Accepts (canonical axioms facts))
-        (λ a c. accepts_by_rows a (All-contains HasNoAuxiliary axioms a no_auxiliary c)
-        (All-weaker (Contains (axiom_rows a)) Says (row_says a c) (axiom_rows a) (All-contains_itself (axiom_rows a)))) axioms (All-contains_itself axioms)
+  -- it is accepted
+  accepted_at : (a : Axiom) → Contains axioms a → HasNoAuxiliary a → All NotMet (axiom_negatives a) → Accepts (canonical axioms facts) a
+  accepted_at a c h unmet =
+      accepts_by_rows a h (All-weaker (Contains (axiom_rows a)) Says (row_says a c unmet) (axiom_rows a) (All-contains_itself (axiom_rows a)))
 
-    fact_holds : (f : Fact) → Contains facts f → FactHolds (canonical axioms facts) f
-    fact_holds (fact.Is c a) h = (individual a, refl, at_name refl (by_class h empty))
-    fact_holds (fact.Link p a b) h = (individual a, individual b, refl, refl, by_fact refl refl h empty)
+  pub all_accepted : All HasNoAuxiliary axioms → (some : List Axiom) → ((a : Axiom) → Contains some a → Contains axioms a)
+      → All NotMet (flat_map axiom_negatives some) → All (Accepts (canonical axioms facts)) some
+  all_accepted no_auxiliary some within unmet =
+      let each = All-of_flat_map NotMet axiom_negatives some unmet in
+      All-weaker (Contains some) (Accepts (canonical axioms facts))
+      (λ a c. accepted_at a (within a c) (All-contains HasNoAuxiliary axioms a no_auxiliary (within a c))
+      (All-contains (λ a. All NotMet (axiom_negatives a)) some a each c)) some (All-contains_itself some)
 
-    nothing-in : (n : Option ℕ) → nothing ≡ n → MatchOption n (Unit {0}) (λ n. (x : Element) → IsElement axioms facts x → ¬ HoldsAt axioms facts (Class n) x)
-    nothing-in None e = tt
-    nothing-in (Some n) e =
-        λ x element h. All-contains NotMet (negatives axioms nothing) (None, Basics (Class n) (Class n)) whole
-        (Contains-append_right (flat_map axiom_negatives axioms) (nothing_negative nothing) (None, Basics (Class n) (Class n))
-        (subst (λ o. Contains (nothing_negative o) (None, Basics (Class n) (Class n))) (sym e) (Contains-first (None, Basics (Class n) (Class n)) [])))
-        (basics-met (Class n) (Class n) tt tt x element h h)
+  fact_holds : (f : Fact) → Contains facts f → FactHolds (canonical axioms facts) f
+  fact_holds (fact.Is c a) h = (individual a, refl, at_name refl (by_class h empty))
+  fact_holds (fact.Link p a b) h = (individual a, individual b, refl, refl, by_fact refl refl h empty)
 
-    pub is_model : IsModel (canonical axioms facts) axioms facts nothing
-    is_model = record {
-      axioms_accepted = all_accepted;
-      facts_hold = All-weaker (Contains facts) (FactHolds (canonical axioms facts)) fact_holds facts (All-contains_itself facts);
-      nothing_in_it = nothing-in nothing refl;
-    }
+  pub facts_hold : All (FactHolds (canonical axioms facts)) facts
+  facts_hold = All-weaker (Contains facts) (FactHolds (canonical axioms facts)) fact_holds facts (All-contains_itself facts)
+
+  nothing-in : (n : Option ℕ) → All NotMet (nothing_negative n) → NothingIsEmpty (canonical axioms facts) n
+  nothing-in None unmet = tt
+  nothing-in (Some n) unmet =
+      λ x element h. All-contains NotMet (nothing_negative (Some n)) (None, Basics (Class n) (Class n)) unmet
+      (Contains-first (None, Basics (Class n) (Class n)) []) (basics-met (Class n) (Class n) tt tt x element h h)
+
+  -- where nothing is broken, it is a model
+  pub is_model : (nothing : Option ℕ) → All HasNoAuxiliary axioms → NothingIsBroken axioms facts nothing
+      → IsModel (canonical axioms facts) axioms facts nothing
+  is_model nothing no_auxiliary whole =
+      let both = All-split NotMet (flat_map axiom_negatives axioms) (nothing_negative nothing) whole in
+      record {
+        axioms_accepted = all_accepted no_auxiliary axioms (λ a c. c) both.0;
+        facts_hold = facts_hold;
+        nothing_in_it = nothing-in nothing both.1;
+      }
+
+  -- ---- queries in it
+
+  -- it maps to itself
+  pub identity : IsHomomorphism (canonical axioms facts) axioms facts (λ z. z)
+  identity = record {
+    elements = λ z element. element;
+    classes = λ c z element h. h;
+    roles = λ p z w ez ew h. h;
+    names = λ a x h. refl;
+  }
+
+  term-value : (m : ℕ → Element) (t : Term) (x : Element) → StandsFor (canonical axioms facts) m t x → value_of m t ≡ x
+  term-value m (Var v) x e = e
+  term-value m (Name a) x e = sym e
+
+  atom-value : (m : ℕ → Element) (a : Atom) → AtomHolds (canonical axioms facts) m a → HoldsOfElements axioms facts m a
+  atom-value m (atom.Is c t) h = subst (HoldsAt axioms facts (Class c)) (sym (term-value m t h.0 h.1)) h.2
+  atom-value m (atom.Link p t u) h =
+      subst (λ x. Joins axioms facts (named p) x (value_of m u)) (sym (term-value m t h.0 h.2))
+      (subst (Joins axioms facts (named p) h.0) (sym (term-value m u h.1 h.3)) h.4)
+
+  head-value : (m : ℕ → Element) (head tuple : List ℕ) → GivesHead (canonical axioms facts) m head tuple → map m head ≡ map individual tuple
+  head-value m [] [] h = refl
+  head-value m [] (a ∷ tuple) h = absurd h
+  head-value m (v ∷ head) [] h = absurd h
+  head-value m (v ∷ head) (a ∷ tuple) h =
+      let first = h.0 in
+      let rest = head-value m head tuple h.1 in
+      cc
+
+  -- what holds in it is certain
+  pub holds-certain : (q : Query) (tuple : List ℕ) → QueryHolds (canonical axioms facts) q tuple → IsCertain axioms facts q tuple
+  holds-certain q tuple h = record {
+    elements = h.values;
+    is_match = record { elements = h.elements; atoms = λ a c. atom-value h.values a (h.atoms a c) };
+    is_head = head-value h.values q.head tuple h.head;
+  }

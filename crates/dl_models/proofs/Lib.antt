@@ -2,9 +2,10 @@ pub mod ListLemmas
 pub mod RowLemmas
 pub mod BelowLemmas
 pub mod SearchLemmas
+pub mod HomomorphismLemmas
 pub mod MapLemmas
-pub mod QueryLemmas
 pub mod CanonicalLemmas
+pub mod BrokenLemmas
 pub mod LoopLemmas
 pub mod OperandLemmas
 pub mod AcceptLemmas

@@ -1,23 +1,25 @@
 -- The canonical structure mapped to a finite model of the same axioms and facts: a name to its element, and a word
 -- along neighbours that are found in the model's lists.
-use Rattle.std.proofs.Common.{◌≡◌, ℕ, ◌<◌, ◌↔◌, Bool, true, false, ◌&&◌, List, [], ◌∷◌, ◌++◌, Option, refl, sym, ap, subst}
+use Rattle.std.proofs.Common.{◌≡◌, ℕ, ◌<◌, ◌↔◌, Bool, true, false, ◌&&◌, List, [], ◌∷◌, ◌++◌, refl, sym, ap, subst}
 use Rattle.std.specs.List.{All, Contains, list_any}
 use Rattle.std.proofs.lemmas.List.Elements.{All-contains}
+use Rattle.dl_terms.specs.Roles.{named}
 use Rattle.dl_terms.specs.Below.{RoleBelow, ConceptBelow}
 use Rattle.dl_terms.specs.Structure.{HoldsAtName, by_class, by_source, by_target, Element, individual, child, Follows, IsWordAt, IsElement, HoldsAt, at_name, at_end, Joins, by_fact, by_fact_turned, to_child, from_child}
-use Rattle.dl_terms.specs.Auxiliaries.{HasNoAuxiliary}
 use Rattle.dl_terms.specs.declared.role.Base.{Base}
 use Rattle.dl_terms.specs.declared.role.Base.TheVariants.{Named, Auxiliary}
 use Rattle.dl_terms.specs.declared.role.Role.{Role}
 use Rattle.dl_terms.specs.declared.role.Basic.{Basic}
-use Rattle.dl_terms.specs.declared.role.Basic.TheVariants.{SomeOf}
+use Rattle.dl_terms.specs.declared.role.Basic.TheVariants.{Class, SomeOf}
 use Rattle.dl_terms.specs.declared.axiom.Axiom.{Axiom}
 use Rattle.dl_terms.specs.declared.axiom.Fact.{Fact}
 use Rattle.dl_terms.specs.declared.axiom.Fact.TheVariants as fact
 use Rattle.dl_terms.proofs.MemberLemmas.{both_true}
-use Rattle.dl_models.specs.Meaning.{turned, BaseLinks, RoleLinks, IsInBasic, FactHolds, IsModel}
+use Rattle.dl_models.specs.Meaning.{turned, BaseLinks, RoleLinks, IsInBasic, FactHolds}
+use Rattle.dl_models.specs.Inclusions.{SatisfiesInclusions}
 use Rattle.dl_models.specs.Structures.{finite}
 use Rattle.dl_models.specs.declared.interp.Interp.{Interp}
+use Rattle.dl_models.proofs.HomomorphismLemmas.{IsHomomorphism}
 use Rattle.dl_models.proofs.RowLemmas.{inverse-links}
 use Rattle.dl_models.proofs.BelowLemmas.{role_below, concept_below}
 use Rattle.dl_models.proofs.SearchLemmas.{and_true, pair_eq, triple_eq, pair_right, triple_right, member-exact, found, found-below, found-passes}
@@ -111,17 +113,16 @@ module _ (model : Interp) where
   neighbour-below : (r : Role) (x : ℕ) → neighbour r x < model.size
   neighbour-below r x = found-below (role_links r x) model.size model.valid.some_element
 
-  module _ (axioms : List Axiom) (facts : List Fact) (nothing : Option ℕ) (no_auxiliary : All HasNoAuxiliary axioms)
-      (is : IsModel (finite model) axioms facts nothing) where
+  module _ (axioms : List Axiom) (facts : List Fact) (is : SatisfiesInclusions (finite model) axioms) (held : All (FactHolds (finite model)) facts) where
     fact_holds : (f : Fact) → Contains facts f → FactHolds (finite model) f
-    fact_holds f c = All-contains (FactHolds (finite model)) facts f is.facts_hold c
+    fact_holds f c = All-contains (FactHolds (finite model)) facts f held c
 
     up : {b c : Basic} → ConceptBelow axioms b c → (x : ℕ) → x < model.size → IsInBasic (finite model) b x → IsInBasic (finite model) c x
-    up d = concept_below (finite model) axioms no_auxiliary is.axioms_accepted d
+    up d = concept_below (finite model) axioms is d
 
     over : {r s : Role} → RoleBelow axioms r s → (x y : ℕ) → x < model.size → y < model.size → RoleLinks (finite model) r x y
         → RoleLinks (finite model) s x y
-    over d = role_below (finite model) axioms no_auxiliary is.axioms_accepted d
+    over d = role_below (finite model) axioms is d
 
     class_at : (c a : ℕ) → Contains facts (fact.Is c a) → Contains model.classes (c, named_by a)
     class_at c a h =
@@ -171,7 +172,7 @@ module _ (model : Interp) where
 
     -- ---- what the map keeps
 
-    pub image-in : (b : Basic) (z : Element) → IsElement axioms facts z → HoldsAt axioms facts b z → IsInBasic (finite model) b (image z)
+    image-in : (b : Basic) (z : Element) → IsElement axioms facts z → HoldsAt axioms facts b z → IsInBasic (finite model) b (image z)
     image-in b z element (at_name e h) =
         subst (λ word. IsInBasic (finite model) b (walk (named_by z.name) word)) (sym e) (at_name-in b z.name h)
     image-in b z element (at_end y r e d) =
@@ -182,7 +183,7 @@ module _ (model : Interp) where
     image-name : (z : Element) → z.word ≡ [] → image z ≡ named_by z.name
     image-name z e = ap (walk (named_by z.name)) e
 
-    pub image-links : (s : Role) (z w : Element) → IsElement axioms facts z → IsElement axioms facts w → Joins axioms facts s z w
+    image-links : (s : Role) (z w : Element) → IsElement axioms facts z → IsElement axioms facts w → Joins axioms facts s z w
         → RoleLinks (finite model) s (image z) (image w)
     image-links s z w ez ew (by_fact {p = p} e f h d) =
         over d (image z) (image w) (image-below z) (image-below w)
@@ -199,3 +200,12 @@ module _ (model : Interp) where
         (inverse-links (finite model) s (image w) (image z)).0
         (over d (image w) (image z) (image-below w) (image-below z)
         (subst (λ x. RoleLinks (finite model) r (image w) (image x)) (sym e) (child-links w r (subst (IsElement axioms facts) e ez))))
+
+    -- it is a homomorphism
+    pub mapped : IsHomomorphism (finite model) axioms facts image
+    mapped = record {
+      elements = λ z element. image-below z;
+      classes = λ c z element h. image-in (Class c) z element h;
+      roles = λ p z w ez ew h. image-links (named p) z w ez ew h;
+      names = λ a x h. subst (λ x. Contains model.names (a, x)) (sym (named_by-is a x h)) h;
+    }

@@ -96,11 +96,16 @@ abbrev pub FactHolds : (i : Structure) → Fact → Type 0
 FactHolds i (fact.Is c a) = (x : i.Value) × i.Denotes a x × i.IsIn c x
 FactHolds i (fact.Link p a b) = (x : i.Value) × (y : i.Value) × i.Denotes a x × i.Denotes b y × i.Links p x y
 
--- a model of axioms and facts: it accepts all of both, and owl:Nothing, where that is a name, has no element
+-- owl:Nothing, where that is a name, has no element
+abbrev pub NothingIsEmpty : (i : Structure) → Option ℕ → Type 0
+NothingIsEmpty i nothing =
+    MatchOption nothing (Unit {0}) (λ n. (x : i.Value) → i.IsElement x → ¬ i.IsIn n x)
+
+-- a model of axioms and facts: it accepts all of both, and owl:Nothing has no element
 pub record IsModel (i : Structure) (axioms : List Axiom) (facts : List Fact) (nothing : Option ℕ) : Type 0 where
   pub axioms_accepted : All (Accepts i) axioms
   pub facts_hold : All (FactHolds i) facts
-  pub nothing_in_it : MatchOption nothing (Unit {0}) (λ n. (x : i.Value) → i.IsElement x → ¬ i.IsIn n x)
+  pub nothing_in_it : NothingIsEmpty i nothing
 
 -- ---- queries
 
