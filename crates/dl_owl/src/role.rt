@@ -1,6 +1,6 @@
 // Roles that stand next.
 ghost use Rattle.std.specs.Prelude.{◌≡◌, ◌↔◌, IsTrue};
-ghost use Rattle.dl_terms.specs.Roles.{named};
+ghost use Rattle.dl_text.specs.AxiomText.{property_of};
 ghost use Rattle.dl_owl.specs.Expected.{role_then};
 ghost use Rattle.dl_owl.specs.Walk.{here, Reads};
 
@@ -47,4 +47,14 @@ pub(crate) fn role(
         base: Base::Named(place),
         inverse: true,
     })
+}
+
+/// The object property of a role.
+pub(crate) fn property_of(role: Role) -> u32
+    ensures { result ≡ property_of role }
+{
+    match role.base {
+        Base::Named(name) => name,
+        Base::Auxiliary { role, .. } => role,
+    }
 }

@@ -1,8 +1,0 @@
-use Rattle.std.proofs.Common.{◌≡◌, ◌∷◌, ◌++◌, take, string_bytes}
-use Rattle.std.specs.List.{flat_map}
-use Rattle.dl_text.specs.AxiomText.{role_text}
-use Rattle.dl_owl.proofs.text.more_roles.Given as goal
-
-abbrev pub invariant-loop-item : goal.invariant-loop-item
-invariant-loop-item l =
-    string_bytes l.out ≡ string_bytes l.initial.out ++ flat_map (λ item. 32 ∷ role_text l.names item) (take l.item-index l.items)
