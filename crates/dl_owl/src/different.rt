@@ -45,12 +45,8 @@ impl Individuals {
         ensures is_new { IfOk result (λ new. new ≡ not (has_name self.old text.now)) }
         ensures fault { IfErr result (λ fault. fault ≡ OwlFault.NoMemory) }
     {
-        let Ok(owned) = String::from_str(*self.texts.allocator(), text) else {
-            return Err(OwlFault::NoMemory);
-        };
-        let Ok(new) = self.texts.insert(owned) else {
-            return Err(OwlFault::NoMemory);
-        };
+        let owned = String::from_str(*self.texts.allocator(), text)?;
+        let new = self.texts.insert(owned)?;
         Ok(new)
     }
 }

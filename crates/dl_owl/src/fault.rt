@@ -3,6 +3,8 @@ ghost use Rattle.std.specs.Prelude.{◌≡◌};
 ghost use Rattle.dl_owl.specs.Causes.{construct_words};
 
 use dl_lex::Keyword;
+use dl_terms::NoMemory;
+use std::alloc::{AllocError, AllocFailed};
 use std::fmt;
 use thiserror::Error;
 
@@ -70,4 +72,37 @@ pub enum OwlFault {
     /// Memory was refused.
     #[error("no memory")]
     NoMemory,
+}
+
+impl From<AllocError> for OwlFault {
+    ghost use Rattle.std.specs.Prelude.{◌≡◌};
+    ghost use Rattle.dl_owl.specs.declared.fault.OwlFault.TheVariants.{NoMemory};
+
+    ghost from_gives = { λ _ fault. fault ≡ NoMemory };
+
+    fn from(_refused: AllocError) -> OwlFault {
+        OwlFault::NoMemory
+    }
+}
+
+impl<T: Drop> From<AllocFailed<T>> for OwlFault {
+    ghost use Rattle.std.specs.Prelude.{◌≡◌};
+    ghost use Rattle.dl_owl.specs.declared.fault.OwlFault.TheVariants.{NoMemory};
+
+    ghost from_gives = { λ _ fault. fault ≡ NoMemory };
+
+    fn from(_refused: AllocFailed<T>) -> OwlFault {
+        OwlFault::NoMemory
+    }
+}
+
+impl From<NoMemory> for OwlFault {
+    ghost use Rattle.std.specs.Prelude.{◌≡◌};
+    ghost use Rattle.dl_owl.specs.declared.fault.OwlFault.TheVariants.{NoMemory};
+
+    ghost from_gives = { λ _ fault. fault ≡ NoMemory };
+
+    fn from(_refused: NoMemory) -> OwlFault {
+        OwlFault::NoMemory
+    }
 }

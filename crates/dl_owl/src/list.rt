@@ -25,9 +25,7 @@ fn add_role(
         (here at.new prefixes.now names.new) roles.old roles.new result }
 {
     let next = role(at, prefixes, names, text)?;
-    let Ok(()) = roles.push(next) else {
-        return Err(OwlFault::NoMemory);
-    };
+    roles.push(next)?;
     Ok(())
 }
 
@@ -78,9 +76,7 @@ fn add_sub(
         (here at.new prefixes.now names.new) subs.old subs.new result }
 {
     let next = sub(at, prefixes, names, text)?;
-    let Ok(()) = subs.push(next) else {
-        return Err(OwlFault::NoMemory);
-    };
+    subs.push(next)?;
     Ok(())
 }
 

@@ -74,9 +74,7 @@ pub(crate) fn expect_iri(
     ensures { Expects at.now prefixes.now (string_bytes text.new) other result }
 {
     let start = at.start();
-    let Ok(found) = find_iri(at, prefixes, text) else {
-        return Err(OwlFault::NoMemory);
-    };
+    let found = find_iri(at, prefixes, text)?;
     match found {
         Found::Iri => Ok(()),
         Found::Unknown => Err(OwlFault::PrefixUnknown { at: start }),

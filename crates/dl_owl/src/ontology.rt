@@ -96,9 +96,7 @@ fn items(
             });
         }
         let item = axiom(alloc, at, prefixes, names, text)?;
-        let Ok(()) = document.add(item) else {
-            return Err(OwlFault::NoMemory);
-        };
+        document.add(item)?;
     }
     close(at)?;
     Ok(document)
@@ -126,9 +124,7 @@ pub(crate) fn whole(
 ) -> Result<Document, OwlFault>
     ensures { Ends prologue (here at.old predefined names.old) names.new result }
 {
-    let Ok(mut prefixes) = Prefixes::new(alloc) else {
-        return Err(OwlFault::NoMemory);
-    };
+    let mut prefixes = Prefixes::new(alloc)?;
     let mut text = String::new(alloc);
     prologue(at, &mut prefixes)?;
     head(at, &prefixes, &mut text)?;
@@ -144,14 +140,10 @@ pub(crate) fn lone(
 ) -> Result<Document, OwlFault>
     ensures { Ends lone_axiom (here at.old predefined names.old) names.new result }
 {
-    let Ok(prefixes) = Prefixes::new(alloc) else {
-        return Err(OwlFault::NoMemory);
-    };
+    let prefixes = Prefixes::new(alloc)?;
     let mut text = String::new(alloc);
     let item = axiom(alloc, at, &prefixes, names, &mut text)?;
     let mut document = Document::new(alloc);
-    let Ok(()) = document.add(item) else {
-        return Err(OwlFault::NoMemory);
-    };
+    document.add(item)?;
     end(at, document)
 }

@@ -61,9 +61,7 @@ impl Prefixes {
     {
         let key = String::from_str(*self.table.allocator(), name)?;
         let value = String::from_str(*self.table.allocator(), iri)?;
-        let Ok(_) = self.table.insert(key, value) else {
-            return Err(NoMemory);
-        };
+        self.table.insert(key, value)?;
         Ok(())
     }
 }

@@ -117,9 +117,7 @@ fn declare(at: &mut Cursor, prefixes: &mut Prefixes, name: &str) -> Result<(), O
         }
         Known::New => {
             at.advance()?;
-            let Ok(()) = prefixes.add(name, iri) else {
-                return Err(OwlFault::NoMemory);
-            };
+            prefixes.add(name, iri)?;
             Ok(())
         }
     }

@@ -113,9 +113,7 @@ fn add_part(
         (here at.new prefixes.now names.new) parts.old parts.new result }
 {
     let next = part(at, prefixes, names, text)?;
-    let Ok(()) = parts.push(next) else {
-        return Err(OwlFault::NoMemory);
-    };
+    parts.push(next)?;
     Ok(())
 }
 

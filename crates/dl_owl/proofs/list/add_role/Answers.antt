@@ -1,4 +1,5 @@
 use Rattle.std.proofs.Common.{[], ◌∷◌}
+use Rattle.dl_owl.specs.declared.fault.OwlFault.TheVariants.{NoMemory}
 use Rattle.dl_owl.specs.Expected.{role_then}
 use Rattle.dl_owl.specs.Walk.{here}
 use Rattle.dl_owl.proofs.WalkLemmas.{no_memory}
@@ -7,13 +8,16 @@ use Rattle.dl_owl.proofs.SeriesLemmas.{exit_by}
 use Rattle.dl_owl.proofs.list.add_role.Goals as goal
 
 pub returns : goal.returns
-returns c = (c.in_ok-next.next ∷ [], c.in-Ok.ensures.ok, λ k. c.in_ok-next.ensures (λ v. k (v ∷ [])))
+returns c = (c.in_ok-next.next ∷ [], c.in_ok-push.ensures.ok, λ k. c.in_ok-next.ensures (λ v. k (v ∷ [])))
 
-pub returns-in_default : goal.returns-in_default
-returns-in_default c =
-    λ k.
+pub returns-in_err-push : goal.returns-in_err-push
+returns-in_err-push c =
+    exit_by (Appends (λ k. role_then (λ r. k (r ∷ []))) (here c.args.at.now c.args.prefixes.now c.args.names.now)
+    (here c.role.new.at c.args.prefixes.now c.role.new.names) c.args.roles.now c.push.new.self)
+    c.from_residual-in_err-push.result NoMemory c.from_residual-in_err-push.ensures.1
+    (λ k.
     no_memory (role_then (λ r. k (r ∷ []))) (here c.args.at.now c.args.prefixes.now c.args.names.now)
-    c.role.new.names (c.in_ok-next.ensures (λ r. k (r ∷ []))).grows
+    c.role.new.names (c.in_ok-next.ensures (λ r. k (r ∷ []))).grows)
 
 pub returns-in_err-next : goal.returns-in_err-next
 returns-in_err-next c =

@@ -39,7 +39,7 @@ stated-smaller c =
     let round : Goes (items c.stated.document) (here c.stated.at c.args.prefixes.now c.stated.names) (items
     c.add.new.self) (here c.axiom.new.at c.args.prefixes.now c.axiom.new.names) =
     subst (λ d. Goes (items c.stated.document) (here c.stated.at c.args.prefixes.now c.stated.names) (items d) (here
-    c.axiom.new.at c.args.prefixes.now c.axiom.new.names)) (sym c.in-Ok.ensures)
+    c.axiom.new.at c.args.prefixes.now c.axiom.new.names)) (sym c.in_ok-add.ensures)
     (c.in_ok-item.ensures (items c.stated.document) (λ i. items (with_item c.stated.document i))
     (items_axiom c.stated.at.token.kind (slice_range c.stated.at.bytes c.stated.at.token.start c.stated.at.token.end)
     c.stated.document (not_kind c.is_close.result _ c.is_close.ensures c.stated-test.true)
@@ -52,7 +52,7 @@ stated-preserved c =
     c.stated.document) (here c.stated.at c.args.prefixes.now c.stated.names) (items c.add.new.self) (here
     c.axiom.new.at c.args.prefixes.now c.axiom.new.names) c.stated.invariant
     (subst (λ d. Goes (items c.stated.document) (here c.stated.at c.args.prefixes.now c.stated.names) (items d) (here
-    c.axiom.new.at c.args.prefixes.now c.axiom.new.names)) (sym c.in-Ok.ensures)
+    c.axiom.new.at c.args.prefixes.now c.axiom.new.names)) (sym c.in_ok-add.ensures)
     (c.in_ok-item.ensures (items c.stated.document) (λ i. items (with_item c.stated.document i))
     (items_axiom c.stated.at.token.kind (slice_range c.stated.at.bytes c.stated.at.token.start c.stated.at.token.end)
     c.stated.document (not_kind c.is_close.result _ c.is_close.ensures c.stated-test.true)
@@ -80,11 +80,14 @@ returns c =
     c.stated.at.token.end) c.args.prefixes.now c.stated.document (c.is_close.ensures.0 c.stated-test.false))
     (c.in_ok-close.ensures c.args.prefixes.now c.stated.names (finish c.stated.document)))
 
-pub returns-in_default : goal.returns-in_default
-returns-in_default c =
-    c.stated.invariant.faults c.axiom.new.names fault.NoMemory
+pub returns-in_err-add : goal.returns-in_err-add
+returns-in_err-add c =
+    exit_by (Finishes (items empty_document) (here c.args.at.now c.args.prefixes.now c.args.names.now) (here
+    c.axiom.new.at c.args.prefixes.now c.axiom.new.names)) c.from_residual-in_err-add.result fault.NoMemory
+    c.from_residual-in_err-add.ensures.1
+    (c.stated.invariant.faults c.axiom.new.names fault.NoMemory
     (no_memory (items c.stated.document) (here c.stated.at c.args.prefixes.now c.stated.names) c.axiom.new.names
     (c.in_ok-item.ensures (items c.stated.document) (λ i. items (with_item c.stated.document i))
     (items_axiom c.stated.at.token.kind (slice_range c.stated.at.bytes c.stated.at.token.start c.stated.at.token.end)
     c.stated.document (not_kind c.is_close.result _ c.is_close.ensures c.stated-test.true)
-    (not_kind c.is_import.result _ c.is_import.ensures c.if-is_import.false))).grows)
+    (not_kind c.is_import.result _ c.is_import.ensures c.if-is_import.false))).grows))

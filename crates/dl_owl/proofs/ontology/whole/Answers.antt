@@ -1,4 +1,5 @@
 use Rattle.std.proofs.Common.{subst}
+use Rattle.dl_owl.specs.declared.fault.OwlFault.TheVariants.{NoMemory}
 use Rattle.dl_owl.specs.Documents.{Ends}
 use Rattle.dl_owl.specs.Expected.{prologue, title, items, finish, open_then}
 use Rattle.dl_owl.specs.Items.{empty_document}
@@ -17,7 +18,7 @@ returns-in_err-head c =
     (goes-faults prologue (here c.args.at.now predefined c.args.names.now) (open_then (title 2)) (here
     c.prologue.new.at c.prologue.new.prefixes c.args.names.now) c.in_err-head.field-0.0
     (subst (λ q. Goes prologue (here c.args.at.now q c.args.names.now) (open_then (title 2)) (here c.prologue.new.at
-    c.prologue.new.prefixes c.args.names.now)) c.in-Ok.ensures (c.in_ok-prologue.ensures c.args.names.now))
+    c.prologue.new.prefixes c.args.names.now)) c.in_ok-prefixes.ensures (c.in_ok-prologue.ensures c.args.names.now))
     (c.in_err-head.ensures c.args.names.now))
 
 pub returns-in_err-document : goal.returns-in_err-document
@@ -30,7 +31,7 @@ returns-in_err-document c =
     c.prologue.new.at c.prologue.new.prefixes c.args.names.now) (items empty_document) (here c.head.new.at
     c.prologue.new.prefixes c.args.names.now)
     (subst (λ q. Goes prologue (here c.args.at.now q c.args.names.now) (open_then (title 2)) (here c.prologue.new.at
-    c.prologue.new.prefixes c.args.names.now)) c.in-Ok.ensures (c.in_ok-prologue.ensures c.args.names.now))
+    c.prologue.new.prefixes c.args.names.now)) c.in_ok-prefixes.ensures (c.in_ok-prologue.ensures c.args.names.now))
     (c.in_ok-head.ensures c.args.names.now))
     c.in_err-document.ensures)
 
@@ -45,12 +46,14 @@ returns c =
     c.prologue.new.at c.prologue.new.prefixes c.args.names.now) (items empty_document) (here c.head.new.at
     c.prologue.new.prefixes c.args.names.now)
     (subst (λ q. Goes prologue (here c.args.at.now q c.args.names.now) (open_then (title 2)) (here c.prologue.new.at
-    c.prologue.new.prefixes c.args.names.now)) c.in-Ok.ensures (c.in_ok-prologue.ensures c.args.names.now))
+    c.prologue.new.prefixes c.args.names.now)) c.in_ok-prefixes.ensures (c.in_ok-prologue.ensures c.args.names.now))
     (c.in_ok-head.ensures c.args.names.now))
     c.in_ok-document.ensures)
     (c.end.ensures c.prologue.new.prefixes c.items.new.names)
 
-pub returns-in_default : goal.returns-in_default
-returns-in_default c =
-    no_memory prologue (here c.args.at.now predefined c.args.names.now) c.args.names.now (Extends-same
-    c.args.names.now)
+pub returns-in_err-prefixes : goal.returns-in_err-prefixes
+returns-in_err-prefixes c =
+    exit_by (Ends prologue (here c.args.at.now predefined c.args.names.now) c.args.names.now)
+    c.from_residual.result NoMemory c.from_residual.ensures.1
+    (no_memory prologue (here c.args.at.now predefined c.args.names.now) c.args.names.now (Extends-same
+    c.args.names.now))

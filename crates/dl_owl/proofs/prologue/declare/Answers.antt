@@ -71,11 +71,11 @@ returns-in_ok-advance-in-Same c =
     ∙ c.knowledge.ensures.fits ∙ ap (λ w. known_move w c.args.name.now c.full_iri-iri.result.now) c.in-Same.is)
     c.advance.new.self c.in_ok-advance-in-Same.ensures
 
-pub returns-in-Ok : goal.returns-in-Ok
-returns-in-Ok c =
+pub returns-in_ok-add-in-New : goal.returns-in_ok-add-in-New
+returns-in_ok-add-in-New c =
     λ names.
     subst (λ q. Goes (prefix_iri c.args.name.now) (here c.args.at.now c.args.prefixes.now names) (close_then
-    prologue) (here c.advance-in-New.new.self q names)) (sym c.in-Ok.ensures)
+    prologue) (here c.advance-in-New.new.self q names)) (sym c.in_ok-add-in-New.ensures)
     (declares-goes Iri iri_plain (prefix_iri c.args.name.now) c.args.at.now c.args.prefixes.now names
     (c.is_full_iri.ensures.0 c.if-not-is_full_iri.false) c.args.name.now c.full_iri-iri.result.now (close_then
     prologue)
@@ -84,7 +84,10 @@ returns-in-Ok c =
     ∙ c.knowledge.ensures.fits ∙ ap (λ w. known_move w c.args.name.now c.full_iri-iri.result.now) c.in-New.is)
     c.advance-in-New.new.self c.in_ok-advance-in-New.ensures)
 
-pub returns-in_default : goal.returns-in_default
-returns-in_default c =
+pub returns-in_err-add-in-New : goal.returns-in_err-add-in-New
+returns-in_err-add-in-New c =
     λ names.
-    no_memory (prefix_iri c.args.name.now) (here c.args.at.now c.args.prefixes.now names) names (Extends-same names)
+    exit_leads (prefix_iri c.args.name.now) (close_then prologue) (here c.args.at.now c.args.prefixes.now names)
+    (here c.advance-in-New.new.self c.add.new.self names) c.from_residual-in_err-add-in-New.result fault.NoMemory
+    c.from_residual-in_err-add-in-New.ensures.1
+    (no_memory (prefix_iri c.args.name.now) (here c.args.at.now c.args.prefixes.now names) names (Extends-same names))

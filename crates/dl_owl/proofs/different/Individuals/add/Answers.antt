@@ -5,10 +5,10 @@ use Rattle.dl_owl.proofs.different.Individuals.add.Goals as goal
 
 pub returns-clause-added : goal.returns-clause-added
 returns-clause-added c =
-    ap (map string_bytes) c.in-Ok-insert.ensures.keys
-    ∙ insert_key_shown c.self.inside.texts.keys _ c.self.view_is c.args.text.now c.in-Ok.owned c.in-Ok.ensures.ok
+    ap (map string_bytes) c.in_ok-new.ensures.keys
+    ∙ insert_key_shown c.self.inside.texts.keys _ c.self.view_is c.args.text.now c.in_ok-owned.owned c.in_ok-owned.ensures.ok
 
 pub returns-clause-is_new : goal.returns-clause-is_new
 returns-clause-is_new c =
-    c.in-Ok-insert.ensures.added
-    ∙ is_new_shown c.self.inside.texts.keys _ c.self.view_is c.args.text.now c.in-Ok.owned c.in-Ok.ensures.ok
+    c.in_ok-new.ensures.added
+    ∙ is_new_shown c.self.inside.texts.keys _ c.self.view_is c.args.text.now c.in_ok-owned.owned c.in_ok-owned.ensures.ok

@@ -10,5 +10,5 @@ returns c =
     let none : declared_iri (shown entries) (string_bytes key) ≡ None =
     ap (declared_iri (shown entries)) c.in_ok-key.ensures.ok
     ∙ ap (λ p. declared_iri p c.args.name.now) c.self.view_is ∙ c.requires in
-    ap shown c.in-Ok.ensures.entries ∙ shown-insert entries key c.in_ok-value.value none
+    ap shown c.in_ok-insert.ensures.entries ∙ shown-insert entries key c.in_ok-value.value none
     ∙ (λ i. c.self.view_is i ++ (c.in_ok-key.ensures.ok i, c.in_ok-value.ensures.ok i) ∷ [])
