@@ -1,4 +1,4 @@
--- Axioms whose names are in a signature, and axioms that are few. The limits are this project's own.
+-- Axioms and facts whose names are in a signature, and axioms that are few. The limits are this project's own.
 use Rattle.std.specs.Prelude.{ℕ, ◌+◌, ◌≤◌, List, length}
 use Rattle.std.specs.List.{All, Contains}
 use Rattle.std.specs.List.Sorted.{IsStrictlyIncreasing}
@@ -8,6 +8,8 @@ use Rattle.dl_terms.specs.declared.axiom.Part.{Part}
 use Rattle.dl_terms.specs.declared.axiom.Part.TheVariants as part
 use Rattle.dl_terms.specs.declared.axiom.Axiom.{Axiom}
 use Rattle.dl_terms.specs.declared.axiom.Axiom.TheVariants.{SubClass, EquivalentClasses, DisjointClasses, SubRole, EquivalentRoles, DisjointRoles, InverseRoles, Domain, Range, Symmetric, Asymmetric, Irreflexive}
+use Rattle.dl_terms.specs.declared.axiom.Fact.{Fact}
+use Rattle.dl_terms.specs.declared.axiom.Fact.TheVariants.{Is, Link}
 use Rattle.dl_terms.specs.declared.axiom.Signature.{Signature}
 use Rattle.dl_normal.specs.Filled.{filled_pairs, HasDistinct}
 use Rattle.dl_hier.specs.Predicates.{max_predicates}
@@ -49,6 +51,11 @@ IsAxiomIn s (Range r ps) = IsRoleIn s r × All (IsPartIn s) ps
 IsAxiomIn s (Symmetric r) = IsRoleIn s r
 IsAxiomIn s (Asymmetric r) = IsRoleIn s r
 IsAxiomIn s (Irreflexive r) = IsRoleIn s r
+
+-- the signature has the predicate of a fact
+abbrev pub IsFactIn : Signature → Fact → Type 0
+IsFactIn s (Is c x) = Contains s.classes c
+IsFactIn s (Link p x y) = Contains s.roles p
 
 -- the names of a signature and the auxiliary roles of axioms together are few
 pub record ArePredicatesFew (s : Signature) (axioms : List Axiom) : Type 0 where
