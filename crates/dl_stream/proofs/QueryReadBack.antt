@@ -1,21 +1,17 @@
 -- The text of a query that was read is read as this query.
 use Rattle.std.proofs.Common.{◌≡◌, ℕ, suc, nat_eq, not, codes, take, ◌+◌, ◌<◌, ◌≤◌, ◌^◌, Bool, true, false, ◌&&◌, ◌==◌, cond, List, [], ◌∷◌, ◌++◌, All, Contains, length, map, slice_get, refl, sym, ap, ap₂, subst, ◌∙◌, arith}
-use Rattle.std.specs.List.{AllByRecursion, filter, flat_map, list_all, list_any, range_with_len}
+use Rattle.std.specs.List.{AllByRecursion, flat_map, list_all}
 use Rattle.std.specs.Str.{is_utf8}
-use Rattle.std.proofs.lemmas.List.{length-map}
 use Rattle.std.proofs.lemmas.List.Elements.{recursion_from_All, All-contains, All-weaker}
 use Rattle.std.proofs.lemmas.Str.{IsUtf8-from_is_utf8}
 use Rattle.dl_names.specs.NameList.{Text, HasNoRepeats, max_names, Extends}
 use Rattle.dl_names.specs.Iris.{is_iri_byte}
 use Rattle.dl_names.proofs.NameListLemmas.{Extends-same}
-use Rattle.dl_terms.specs.declared.query.Term.{Term}
-use Rattle.dl_terms.specs.declared.query.Term.TheVariants.{Var, Name}
-use Rattle.dl_terms.specs.declared.query.Atom.{Atom}
-use Rattle.dl_terms.specs.declared.query.Atom.TheVariants.{Is, Link}
 use Rattle.dl_terms.specs.declared.query.Query.{Query}
 use Rattle.dl_terms.specs.Occurring.{atom_names, query_names}
-use Rattle.dl_terms.specs.Queries.{term_variables, atom_variables, body_variables, IsWellFormed}
-use Rattle.dl_terms.specs.Renamed.{renamed_term, renamed_atom, renamed_query}
+use Rattle.dl_terms.specs.Queries.{atom_variables, body_variables, IsWellFormed}
+use Rattle.dl_terms.specs.Renamed.{renamed_atom, renamed_query}
+use Rattle.dl_terms.proofs.RenamedLemmas.{well_formed_renamed}
 use Rattle.dl_query.specs.Symbols.{iri, no_token, Front, front, run_len, run, behind, is_variable_byte, variable_of, iri_of, turnstile_of, front_of, Placed, AreTokens, last, more, symbols_of, is_blank}
 use Rattle.dl_query.specs.Grammar.{Met, IsQuery, query_of}
 use Rattle.dl_query.specs.Queries.{IsText, IsValue}
@@ -73,48 +69,16 @@ tokens_sound : {len : ℕ} {bytes : List ℕ} {tokens : List Placed} → AreToke
 tokens_sound (last {bytes = bytes} e) = (front_sound (behind is_blank bytes), tt)
 tokens_sound (more {bytes = bytes} e others) = (front_sound (behind is_blank bytes), tokens_sound others)
 
--- ---- other names keep a query well formed
-
-module _ (to : ℕ → ℕ) where
-  term_same : (t : Term) → term_variables (renamed_term to t) ≡ term_variables t
-  term_same (Var v) = refl
-  term_same (Name a) = refl
-
-  atom_same : (a : Atom) → atom_variables (renamed_atom to a) ≡ atom_variables a
-  atom_same (Is c t) = term_same t
-  atom_same (Link p t u) = ap₂ (λ l m. l ++ m) (term_same t) (term_same u)
-
-  body_same : (atoms : List Atom) → flat_map atom_variables (map (renamed_atom to) atoms) ≡ flat_map atom_variables atoms
-  body_same [] = refl
-  body_same (a ∷ atoms) = ap₂ (λ l m. l ++ m) (atom_same a) (body_same atoms)
-
-  abbrev existential_of : (body head : List ℕ) (vars : ℕ) → List ℕ
-  existential_of body head vars =
-      filter (λ v. list_any (nat_eq v) body && not (list_any (nat_eq v) head)) (range_with_len 0 vars)
-
-  well_formed_renamed : (q : Query) → IsWellFormed q → IsWellFormed (renamed_query to q)
-  well_formed_renamed q formed =
-      let same : body_variables (renamed_query to q) ≡ body_variables q = body_same q.atoms in
-      let as_many : length (map (renamed_atom to) q.atoms) ≡ length q.atoms = length-map q.atoms (renamed_atom to) in
-      record {
-        variables = subst (All (λ v. v < q.vars)) (sym same) formed.variables;
-        head_in_body = subst (λ body. All (Contains body) q.head) (sym same) formed.head_in_body;
-        some_atom = omega (arith, as_many, formed.some_atom);
-        atoms = omega (arith, as_many, formed.atoms);
-        existential = omega (arith, formed.existential, ap (λ body. length (existential_of body q.head q.vars)) same);
-        head = formed.head;
-      }
-
 -- ---- the law
 
-module _ (held names : List Text) (distinct : HasNoRepeats held) (number : ℕ → ℕ) (q : Query) where
-  few_variables : IsWellFormed q → q.vars ≤ 256 → All (λ v. v < 2 ^ 64) (body_variables q)
-  few_variables formed few = All-weaker (λ v. v < q.vars) (λ v. v < 2 ^ 64) (λ v h. omega (arith, h, few)) (body_variables q) formed.variables
+few_variables : (q : Query) → IsWellFormed q → q.vars ≤ 256 → All (λ v. v < 2 ^ 64) (body_variables q)
+few_variables q formed few = All-weaker (λ v. v < q.vars) (λ v. v < 2 ^ 64) (λ v h. omega (arith, h, few)) (body_variables q) formed.variables
 
+module _ (held names : List Text) (distinct : HasNoRepeats held) (number : ℕ → ℕ) (q : Query) where
   few_head : IsWellFormed q → q.vars ≤ 256 → All (λ v. v < 2 ^ 64) q.head
   few_head formed few =
       All-weaker (Contains (body_variables q)) (λ v. v < 2 ^ 64)
-      (λ v h. All-contains (λ v. v < 2 ^ 64) (body_variables q) v (few_variables formed few) h) q.head formed.head_in_body
+      (λ v h. All-contains (λ v. v < 2 ^ 64) (body_variables q) v (few_variables q formed few) h) q.head formed.head_in_body
 
   -- it has these tokens
   text_back : (m : Met) → q ≡ query_of m → IsWellFormed q → q.vars ≤ 256 → (back : QueryIsBack held distinct number names m)
@@ -125,7 +89,8 @@ module _ (held names : List Text) (distinct : HasNoRepeats held) (number : ℕ �
       let iris = subst (AllByRecursion (λ a. AllByRecursion (IsIriAt held) (atom_names a))) back.atoms back.iris in
       let body_few : AllByRecursion (λ v. v < 2 ^ 64) (flat_map atom_variables (back.some ∷ back.others)) =
       subst (λ l. AllByRecursion (λ v. v < 2 ^ 64) (flat_map atom_variables l)) atoms_are
-      (subst (AllByRecursion (λ v. v < 2 ^ 64)) (sym (body_same number q.atoms)) (recursion_from_All (λ v. v < 2 ^ 64) (body_variables q) (few_variables formed few)))
+      (recursion_from_All (λ v. v < 2 ^ 64) (body_variables (renamed_query number q))
+      (few_variables (renamed_query number q) (well_formed_renamed number q formed) few))
       in
       let head_few = recursion_from_All (λ v. v < 2 ^ 64) q.head (few_head formed few) in
       let written = query_then held (length text) q.head back.some back.others head_few body_few iris in

@@ -16,7 +16,6 @@ pub mod laws;
 mod number;
 mod outcome;
 mod place;
-mod query_text;
 mod ranked;
 mod reading;
 mod reply;
@@ -24,6 +23,7 @@ mod said;
 mod stream_text;
 mod streams;
 mod text_laws;
+mod text_sink;
 pub mod worked_examples;
 
 pub use dl_text::print_name;
