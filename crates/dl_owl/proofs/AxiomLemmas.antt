@@ -6,14 +6,14 @@ use Rattle.dl_lex.specs.declared.token.TokenKind.{TokenKind}
 use Rattle.dl_lex.specs.declared.token.TokenKind.TheVariants.{Word}
 use Rattle.dl_owl.specs.declared.fault.OwlFault.{OwlFault}
 use Rattle.dl_owl.specs.declared.item.Item.{Item}
-use Rattle.dl_owl.specs.declared.item.Item.TheVariants.{NoEffect as no_effect}
+use Rattle.dl_owl.specs.declared.item.Item.TheVariants.{Axiom as axiom_item, NoEffect as no_effect}
 use Rattle.dl_owl.specs.Symbols.{keyword, symbol_of}
 use Rattle.dl_owl.specs.Prefixes.{Prefixes}
 use Rattle.dl_owl.specs.Causes.{syntax}
 use Rattle.dl_owl.specs.Refused.{refused_axiom}
-use Rattle.dl_owl.specs.Expected.{Expected, close_then, iri_then, Move, refuses}
+use Rattle.dl_owl.specs.Expected.{Expected, close_then, iri_then, role_then, sup_then, Move, refuses}
 use Rattle.dl_owl.specs.Steps.{begins, axiom_next, move_of}
-use Rattle.dl_owl.specs.Operands.{is_axiom, operands_then}
+use Rattle.dl_owl.specs.Operands.{is_axiom, operands_then, domain_or_range, one_role}
 use Rattle.dl_owl.specs.Walk.{Spot, symbol_at, Here, Goes, Faults, Reads, Follows}
 use Rattle.dl_owl.proofs.WalkLemmas.{goes-then, goes-faults}
 
@@ -89,6 +89,18 @@ pub reads_as : {V : Type 0} (e f : (V → Expected) → Expected) (a b : Here) (
     → Reads f a b r → Reads e a b r
 reads_as e f a b (Ok v) same h = λ k. subst (λ x. Goes x a (k v) b) (sym (same k)) (h k)
 reads_as e f a b (Err fault) same h = λ k. subst (λ x. Faults x a b.names fault) (sym (same k)) (h k)
+
+-- the operands that are read by one function for several keywords
+abbrev pub role_behind : Keyword → (Item → Expected) → Expected
+role_behind w k = role_then (λ r. close_then (k (axiom_item (one_role w r))))
+
+abbrev pub role_and_parts_behind : Keyword → (Item → Expected) → Expected
+role_and_parts_behind w k = role_then (λ r. sup_then (λ ps. close_then (k (axiom_item (domain_or_range w r ps)))))
+
+pub reads_word : (f : Keyword → (Item → Expected) → Expected) (w x : Keyword) (a b : Here) (r : Result Item OwlFault)
+    → w ≡ x → ((k : Item → Expected) → operands_then x k ≡ f x k) → Reads (f w) a b r → Reads (operands_then w) a b r
+reads_word f w x a b r is same h =
+    reads_as (operands_then w) (f w) a b r (λ k. subst (λ v. operands_then v k ≡ f v k) (sym is) (same k)) h
 
 pub operands_other : (w : Keyword) (k : Item → Expected) → (w ≡ SubClassOf → ⊥)
     → (w ≡ EquivalentClasses → ⊥)

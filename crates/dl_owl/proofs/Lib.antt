@@ -34,6 +34,7 @@ pub mod PlaceLemmas
 pub mod ReadingLemmas
 pub mod IriTexts
 pub mod Spelling
+pub mod Saying
 pub mod Stating
 pub mod Stated
 pub mod ReadBack

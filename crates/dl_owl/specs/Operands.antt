@@ -1,9 +1,11 @@
 -- The operands of an axiom: which keywords begin axioms, and what is expected behind each and its annotations.
-use Rattle.std.specs.Prelude.{Bool, true, Option, Some, None, []}
+use Rattle.std.specs.Prelude.{Bool, true, Option, Some, None, List, []}
 use Rattle.dl_lex.specs.declared.keyword.Keyword.{Keyword}
 use Rattle.dl_lex.specs.declared.keyword.Keyword.TheVariants.{SubClassOf, EquivalentClasses, DisjointClasses, SubObjectPropertyOf, EquivalentObjectProperties, DisjointObjectProperties, InverseObjectProperties, ObjectPropertyDomain, ObjectPropertyRange, SymmetricObjectProperty, AsymmetricObjectProperty, IrreflexiveObjectProperty, ClassAssertion, ObjectPropertyAssertion, DifferentIndividuals, Declaration, AnnotationAssertion}
 use Rattle.dl_terms.specs.declared.role.Role.{Role}
+use Rattle.dl_terms.specs.declared.axiom.Axiom.{Axiom}
 use Rattle.dl_terms.specs.declared.axiom.Axiom.TheVariants as axioms
+use Rattle.dl_terms.specs.declared.axiom.Part.{Part}
 use Rattle.dl_owl.specs.declared.item.Item.{Item}
 use Rattle.dl_owl.specs.declared.item.Item.TheVariants.{Axiom as axiom_item, Fact as fact_item, Role as role_item, NoEffect as no_effect}
 use Rattle.dl_owl.specs.Items.{link}
@@ -37,6 +39,17 @@ is_axiom w = is_annotation_axiom w
 abbrev pub sub_role_item : Role → Option Role → Item
 sub_role_item r (Some s) = axiom_item (axioms.SubRole r s)
 sub_role_item r None = role_item (property_of r)
+
+-- the domain of a role where the keyword says so, or else its range
+abbrev pub domain_or_range : Keyword → Role → List Part → Axiom
+domain_or_range ObjectPropertyDomain r ps = axioms.Domain r ps
+domain_or_range w r ps = axioms.Range r ps
+
+-- that a role is symmetric or asymmetric where the keyword says so, or else irreflexive
+abbrev pub one_role : Keyword → Role → Axiom
+one_role SymmetricObjectProperty r = axioms.Symmetric r
+one_role AsymmetricObjectProperty r = axioms.Asymmetric r
+one_role w r = axioms.Irreflexive r
 
 -- of two annotation properties, or of one and an IRI, where no other keyword stands
 abbrev pub operands_then : Keyword → (Item → Expected) → Expected

@@ -4,7 +4,7 @@ ghost use Rattle.dl_names.specs.NameList.{Text};
 ghost use Rattle.dl_owl.specs.Expected.{open_then, annotations_then, iri_then, subject_then, value_then, value_end};
 ghost use Rattle.dl_owl.specs.Walk.{here, Passes};
 
-use crate::cursor::{Cursor, close, open};
+use crate::cursor::{Cursor, close, is_word, open};
 use crate::fault::OwlFault;
 use crate::name::iri;
 use crate::prefixes::Prefixes;
@@ -56,16 +56,6 @@ fn is_caret(at: &Cursor) -> bool
     }
 }
 
-/// Whether `Annotation` stands next.
-pub(crate) fn is_annotation(at: &Cursor) -> bool
-    ensures { IsTrue result ↔ (at.now.token.kind ≡ TokenKind.Word Keyword.Annotation) }
-{
-    match at.kind() {
-        TokenKind::Word(Keyword::Annotation) => true,
-        _ => false,
-    }
-}
-
 /// Passes over what may stand behind the string of a literal, and the `)` behind it.
 fn literal_end(at: &mut Cursor, prefixes: &Prefixes, text: &mut String) -> Result<(), OwlFault>
     ensures { (names : List Text) → Passes value_end (here at.old prefixes.now names)
@@ -111,7 +101,7 @@ pub(crate) fn begin(at: &mut Cursor, prefixes: &Prefixes, text: &mut String) -> 
         (here at.old prefixes.now names) (here at.new prefixes.now names) result }
 {
     open(at)?;
-    while is_annotation(at) {
+    while is_word(at, Keyword::Annotation) {
         at.advance()?;
         begin(at, prefixes, text)?;
         iri(at, prefixes, text)?;

@@ -9,16 +9,13 @@ use crate::assertion::{
     annotation_assertion, annotation_axiom, class_assertion, declaration, different_individuals,
     property_assertion,
 };
-use crate::class_axiom::{disjoint_classes, domain, equivalent_classes, range, sub_class_of};
+use crate::class_axiom::{disjoint_classes, domain_or_range, equivalent_classes, sub_class_of};
 use crate::cursor::Cursor;
 use crate::fault::OwlFault;
 use crate::item::Item;
 use crate::prefixes::Prefixes;
 use crate::refused::refused_axiom;
-use crate::role_axiom::{
-    asymmetric, disjoint_roles, equivalent_roles, inverse_roles, irreflexive, sub_role_of,
-    symmetric,
-};
+use crate::role_axiom::{disjoint_roles, equivalent_roles, inverse_roles, one_role, sub_role_of};
 use dl_lex::Keyword;
 use dl_names::NameSet;
 use std::alloc::Global;
@@ -72,11 +69,11 @@ fn operands(
         Keyword::EquivalentObjectProperties => equivalent_roles(alloc, at, prefixes, names, text),
         Keyword::DisjointObjectProperties => disjoint_roles(alloc, at, prefixes, names, text),
         Keyword::InverseObjectProperties => inverse_roles(at, prefixes, names, text),
-        Keyword::ObjectPropertyDomain => domain(alloc, at, prefixes, names, text),
-        Keyword::ObjectPropertyRange => range(alloc, at, prefixes, names, text),
-        Keyword::SymmetricObjectProperty => symmetric(at, prefixes, names, text),
-        Keyword::AsymmetricObjectProperty => asymmetric(at, prefixes, names, text),
-        Keyword::IrreflexiveObjectProperty => irreflexive(at, prefixes, names, text),
+        Keyword::ObjectPropertyDomain => domain_or_range(alloc, at, prefixes, names, text, word),
+        Keyword::ObjectPropertyRange => domain_or_range(alloc, at, prefixes, names, text, word),
+        Keyword::SymmetricObjectProperty => one_role(at, prefixes, names, text, word),
+        Keyword::AsymmetricObjectProperty => one_role(at, prefixes, names, text, word),
+        Keyword::IrreflexiveObjectProperty => one_role(at, prefixes, names, text, word),
         Keyword::ClassAssertion => class_assertion(at, prefixes, names, text),
         Keyword::ObjectPropertyAssertion => property_assertion(at, prefixes, names, text),
         Keyword::DifferentIndividuals => different_individuals(alloc, at, prefixes, text),

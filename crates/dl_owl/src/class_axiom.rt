@@ -1,8 +1,9 @@
 // Axioms on classes, behind their keywords and annotations.
-ghost use Rattle.std.specs.Prelude.{[]};
+ghost use Rattle.std.specs.Prelude.{◌≡◌, []};
 ghost use Rattle.dl_terms.specs.declared.axiom.Axiom.TheVariants as axioms;
 ghost use Rattle.dl_owl.specs.declared.item.Item.TheVariants as item;
 ghost use Rattle.dl_owl.specs.Expected.{close_then, role_then, sub_then, sup_then, subs_close};
+ghost use Rattle.dl_owl.specs.Operands.{domain_or_range};
 ghost use Rattle.dl_owl.specs.Walk.{here, Reads};
 
 use crate::cursor::{Cursor, close};
@@ -13,8 +14,9 @@ use crate::list::subs;
 use crate::prefixes::Prefixes;
 use crate::right::sup;
 use crate::role::role;
+use dl_lex::Keyword;
 use dl_names::NameSet;
-use dl_terms::Axiom;
+use dl_terms::{Axiom, List, Part, Role};
 use std::alloc::Global;
 
 /// An inclusion of classes.
@@ -67,42 +69,30 @@ pub(crate) fn disjoint_classes(
     Ok(Item::Axiom(Axiom::DisjointClasses(classes)))
 }
 
-/// The domain of a role.
-pub(crate) fn domain(
-    alloc: Global,
-    at: &mut Cursor,
-    prefixes: &Prefixes,
-    names: &mut NameSet,
-    text: &mut String,
-) -> Result<Item, OwlFault>
-    ensures { Reads (λ k. role_then (λ r. sup_then (λ ps. close_then (k (item.Axiom (axioms.Domain r ps))))))
-        (here at.old prefixes.now names.old) (here at.new prefixes.now names.new) result }
+/// The domain of a role, or its range, as the keyword says.
+fn restriction(word: Keyword, role: Role, sup: List<Part>) -> Axiom
+    ensures { result ≡ domain_or_range word role sup }
 {
-    let over = role(at, prefixes, names, text)?;
-    let parts = sup(alloc, at, prefixes, names, text)?;
-    close(at)?;
-    Ok(Item::Axiom(Axiom::Domain {
-        role: over,
-        sup: parts,
-    }))
+    match word {
+        Keyword::ObjectPropertyDomain => Axiom::Domain { role, sup },
+        _ => Axiom::Range { role, sup },
+    }
 }
 
-/// The range of a role.
-pub(crate) fn range(
+/// The domain or the range of a role.
+pub(crate) fn domain_or_range(
     alloc: Global,
     at: &mut Cursor,
     prefixes: &Prefixes,
     names: &mut NameSet,
     text: &mut String,
+    word: Keyword,
 ) -> Result<Item, OwlFault>
-    ensures { Reads (λ k. role_then (λ r. sup_then (λ ps. close_then (k (item.Axiom (axioms.Range r ps))))))
+    ensures { Reads (λ k. role_then (λ r. sup_then (λ ps. close_then (k (item.Axiom (domain_or_range word r ps))))))
         (here at.old prefixes.now names.old) (here at.new prefixes.now names.new) result }
 {
     let over = role(at, prefixes, names, text)?;
     let parts = sup(alloc, at, prefixes, names, text)?;
     close(at)?;
-    Ok(Item::Axiom(Axiom::Range {
-        role: over,
-        sup: parts,
-    }))
+    Ok(Item::Axiom(restriction(word, over, parts)))
 }

@@ -197,6 +197,16 @@ fn between_brackets(bytes: &[u8], start: usize, end: usize) -> &str
     }
 }
 
+/// Whether this keyword stands next.
+pub(crate) fn is_word(at: &Cursor, word: Keyword) -> bool
+    ensures { IsTrue result ↔ (at.now.token.kind ≡ TokenKind.Word word) }
+{
+    match at.kind() {
+        TokenKind::Word(stands) => stands == word,
+        _ => false,
+    }
+}
+
 /// `(` and what is expected behind it.
 pub(crate) fn open(at: &mut Cursor) -> Result<(), OwlFault>
     ensures { (p : Prefixes) (names : List Text)

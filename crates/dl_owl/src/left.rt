@@ -1,28 +1,17 @@
 // Class expressions of a left side that stand next.
-ghost use Rattle.std.specs.Prelude.{◌≡◌, ◌↔◌, IsTrue};
 ghost use Rattle.dl_terms.specs.declared.role.Basic.TheVariants.{SomeOf};
 ghost use Rattle.dl_owl.specs.Expected.{open_then, close_then, role_then, thing_then, sub_then};
 ghost use Rattle.dl_owl.specs.Walk.{here, Reads};
 
 use crate::class::{named_class, thing};
-use crate::cursor::{Cursor, close, open};
+use crate::cursor::{Cursor, close, is_word, open};
 use crate::fault::OwlFault;
 use crate::prefixes::Prefixes;
 use crate::refused::refused_sub;
 use crate::role::role;
-use dl_lex::{Keyword, TokenKind};
+use dl_lex::Keyword;
 use dl_names::NameSet;
 use dl_terms::Basic;
-
-/// Whether `ObjectSomeValuesFrom` stands next.
-pub(crate) fn is_some(at: &Cursor) -> bool
-    ensures { IsTrue result ↔ (at.now.token.kind ≡ TokenKind.Word Keyword.ObjectSomeValuesFrom) }
-{
-    match at.kind() {
-        TokenKind::Word(Keyword::ObjectSomeValuesFrom) => true,
-        _ => false,
-    }
-}
 
 /// What has a neighbour by a role, behind its keyword.
 fn some_of(
@@ -52,7 +41,7 @@ pub(crate) fn sub(
         (here at.new prefixes.now names.new) result }
 {
     let start = at.start();
-    if is_some(at) {
+    if is_word(at, Keyword::ObjectSomeValuesFrom) {
         at.advance()?;
         return some_of(at, prefixes, names, text);
     }

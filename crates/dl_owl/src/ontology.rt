@@ -1,5 +1,5 @@
 // Ontology documents.
-ghost use Rattle.std.specs.Prelude.{◌≡◌, ◌↔◌, ℕ, suc, IsTrue, List, if◌then◌else◌};
+ghost use Rattle.std.specs.Prelude.{◌≡◌, ℕ, suc, List, if◌then◌else◌};
 ghost use Rattle.dl_names.specs.NameList.{Text};
 ghost use Rattle.dl_owl.specs.Documents.{Ends, Finishes, Leads};
 ghost use Rattle.dl_owl.specs.Expected.{prologue, title, annotations_first, items, lone_axiom, finish, open_then, iri_then};
@@ -8,9 +8,9 @@ ghost use Rattle.dl_owl.specs.Prefixes.{Prefixes, predefined};
 ghost use Rattle.dl_owl.specs.Steps.{move_of};
 ghost use Rattle.dl_owl.specs.Walk.{here, symbol_at};
 
-use crate::annotation::{begin, is_annotation, value};
+use crate::annotation::{begin, value};
 use crate::axiom::axiom;
-use crate::cursor::{Cursor, close, open};
+use crate::cursor::{Cursor, close, is_word, open};
 use crate::document::Document;
 use crate::fault::{Construct, OwlFault};
 use crate::name::iri;
@@ -29,16 +29,6 @@ fn is_iri(at: &Cursor) -> bool
     match at.kind() {
         TokenKind::Iri => true,
         TokenKind::Short => true,
-        _ => false,
-    }
-}
-
-/// Whether `Import` stands next.
-fn is_import(at: &Cursor) -> bool
-    ensures { IsTrue result ↔ (at.now.token.kind ≡ TokenKind.Word Keyword.Import) }
-{
-    match at.kind() {
-        TokenKind::Word(Keyword::Import) => true,
         _ => false,
     }
 }
@@ -66,7 +56,7 @@ fn head(at: &mut Cursor, prefixes: &Prefixes, text: &mut String) -> Result<(), O
         (here at.old prefixes.now names) (here at.new prefixes.now names) result }
 {
     title(at, prefixes, text)?;
-    while is_annotation(at) {
+    while is_word(at, Keyword::Annotation) {
         at.advance()?;
         begin(at, prefixes, text)?;
         iri(at, prefixes, text)?;
@@ -89,7 +79,7 @@ fn items(
     let mut document = Document::new(alloc);
     'stated: while !at.is_close() {
         let start = at.start();
-        if is_import(at) {
+        if is_word(at, Keyword::Import) {
             return Err(OwlFault::LeftOut {
                 at: start,
                 what: Construct::Keyword(Keyword::Import),

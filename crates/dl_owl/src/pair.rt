@@ -1,30 +1,20 @@
 // The two roles of an inclusion of object properties.
-ghost use Rattle.std.specs.Prelude.{◌≡◌, ◌↔◌, IsTrue, Some, None};
+ghost use Rattle.std.specs.Prelude.{◌≡◌, Some, None};
 ghost use Rattle.std.specs.Str.{bytes_eq};
 ghost use Rattle.dl_owl.specs.Expected.{first_role, second_role};
 ghost use Rattle.dl_owl.specs.NamesNext.{owl_top_object_property};
 ghost use Rattle.dl_owl.specs.Walk.{here, Reads};
 
-use crate::cursor::Cursor;
+use crate::cursor::{Cursor, is_word};
 use crate::fault::{Construct, OwlFault};
 use crate::name::{expect_iri, take_free};
 use crate::prefixes::Prefixes;
-use crate::role::{is_inverse, role};
-use dl_lex::{Keyword, TokenKind};
+use crate::role::role;
+use dl_lex::Keyword;
 use dl_names::NameSet;
 use dl_terms::{Base, Role};
 
 const OWL_TOP_OBJECT_PROPERTY: &str = "http://www.w3.org/2002/07/owl#topObjectProperty";
-
-/// Whether `ObjectPropertyChain` stands next.
-fn is_chain(at: &Cursor) -> bool
-    ensures { IsTrue result ↔ (at.now.token.kind ≡ TokenKind.Word Keyword.ObjectPropertyChain) }
-{
-    match at.kind() {
-        TokenKind::Word(Keyword::ObjectPropertyChain) => true,
-        _ => false,
-    }
-}
 
 /// The role of the left side that stands next.
 pub(crate) fn first_role(
@@ -37,7 +27,7 @@ pub(crate) fn first_role(
         (here at.new prefixes.now names.new) result }
 {
     let start = at.start();
-    if is_chain(at) {
+    if is_word(at, Keyword::ObjectPropertyChain) {
         return Err(OwlFault::NotQl {
             at: start,
             what: Construct::Keyword(Keyword::ObjectPropertyChain),
@@ -63,7 +53,7 @@ pub(crate) fn second_role(
     ensures { Reads (λ k. second_role (λ r. k (Some r)) (k None)) (here at.old prefixes.now names.old)
         (here at.new prefixes.now names.new) result }
 {
-    if is_inverse(at) {
+    if is_word(at, Keyword::ObjectInverseOf) {
         let over = role(at, prefixes, names, text)?;
         return Ok(Some(over));
     }

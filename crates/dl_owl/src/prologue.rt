@@ -9,7 +9,7 @@ ghost use Rattle.dl_owl.specs.Symbols.{full_iri};
 ghost use Rattle.dl_owl.specs.Walk.{here, symbol_at};
 ghost use Rattle.dl_owl.specs.Documents.{known_move, Leads};
 
-use crate::cursor::{Cursor, close, open};
+use crate::cursor::{Cursor, close, is_word, open};
 use crate::fault::OwlFault;
 use crate::prefixes::Prefixes;
 use dl_lex::{Keyword, TokenKind};
@@ -23,26 +23,6 @@ enum Known {
     Same,
     /// It stands for another IRI.
     Differs,
-}
-
-/// Whether `Prefix` stands next.
-fn is_prefix(at: &Cursor) -> bool
-    ensures { IsTrue result ↔ (at.now.token.kind ≡ TokenKind.Word Keyword.Prefix) }
-{
-    match at.kind() {
-        TokenKind::Word(Keyword::Prefix) => true,
-        _ => false,
-    }
-}
-
-/// Whether `Ontology` stands next.
-fn is_ontology(at: &Cursor) -> bool
-    ensures { IsTrue result ↔ (at.now.token.kind ≡ TokenKind.Word Keyword.Ontology) }
-{
-    match at.kind() {
-        TokenKind::Word(Keyword::Ontology) => true,
-        _ => false,
-    }
 }
 
 /// Whether `=` stands next.
@@ -148,12 +128,12 @@ pub(crate) fn prologue(at: &mut Cursor, prefixes: &mut Prefixes) -> Result<(), O
     ensures { (names : List Text) → Leads prologue (open_then (title 2))
         (here at.old prefixes.old names) (here at.new prefixes.new names) result }
 {
-    while is_prefix(at) {
+    while is_word(at, Keyword::Prefix) {
         at.advance()?;
         declaration(at, prefixes)?;
     }
     let start = at.start();
-    if !is_ontology(at) {
+    if !is_word(at, Keyword::Ontology) {
         return Err(OwlFault::Syntax { at: start });
     }
     at.advance()?;

@@ -1,14 +1,14 @@
 // Class expressions of a right side that stand next.
-ghost use Rattle.std.specs.Prelude.{◌≡◌, ◌↔◌, IsTrue, []};
+ghost use Rattle.std.specs.Prelude.{◌≡◌, []};
 ghost use Rattle.dl_terms.specs.declared.axiom.Part.TheVariants.{Not};
 ghost use Rattle.dl_owl.specs.Expected.{open_then, close_then, role_then, filler_then, sub_then, sup_then, sups_close};
 ghost use Rattle.dl_owl.specs.Series.{ReadsOne, Appends};
 ghost use Rattle.dl_owl.specs.Walk.{here, Reads};
 
 use crate::class::filler;
-use crate::cursor::{Cursor, close, open};
+use crate::cursor::{Cursor, close, is_word, open};
 use crate::fault::OwlFault;
-use crate::left::{is_some, sub};
+use crate::left::sub;
 use crate::name::class_or_thing;
 use crate::prefixes::Prefixes;
 use crate::refused::refused_sup;
@@ -51,26 +51,6 @@ pub(crate) fn complement(
     Ok(Part::Not(inner))
 }
 
-/// Whether `ObjectComplementOf` stands next.
-fn is_complement(at: &Cursor) -> bool
-    ensures { IsTrue result ↔ (at.now.token.kind ≡ TokenKind.Word Keyword.ObjectComplementOf) }
-{
-    match at.kind() {
-        TokenKind::Word(Keyword::ObjectComplementOf) => true,
-        _ => false,
-    }
-}
-
-/// Whether `ObjectIntersectionOf` stands next.
-fn is_intersection(at: &Cursor) -> bool
-    ensures { IsTrue result ↔ (at.now.token.kind ≡ TokenKind.Word Keyword.ObjectIntersectionOf) }
-{
-    match at.kind() {
-        TokenKind::Word(Keyword::ObjectIntersectionOf) => true,
-        _ => false,
-    }
-}
-
 /// The class expression of a right side that stands next and is no intersection.
 fn part(
     at: &mut Cursor,
@@ -83,11 +63,11 @@ fn part(
         (here at.new prefixes.now names.new) result }
 {
     let start = at.start();
-    if is_some(at) {
+    if is_word(at, Keyword::ObjectSomeValuesFrom) {
         at.advance()?;
         return some_part(at, prefixes, names, text);
     }
-    if is_complement(at) {
+    if is_word(at, Keyword::ObjectComplementOf) {
         at.advance()?;
         return complement(at, prefixes, names, text);
     }
@@ -130,7 +110,7 @@ fn add_parts(
     ensures { Appends sup_then (here at.old prefixes.now names.old)
         (here at.new prefixes.now names.new) parts.old parts.new result }
 {
-    if !is_intersection(at) {
+    if !is_word(at, Keyword::ObjectIntersectionOf) {
         return add_part(at, prefixes, names, text, parts);
     }
     at.advance()?;

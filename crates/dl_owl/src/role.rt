@@ -1,26 +1,16 @@
 // Roles that stand next.
-ghost use Rattle.std.specs.Prelude.{◌≡◌, ◌↔◌, IsTrue};
+ghost use Rattle.std.specs.Prelude.{◌≡◌};
 ghost use Rattle.dl_text.specs.AxiomText.{property_of};
 ghost use Rattle.dl_owl.specs.Expected.{role_then};
 ghost use Rattle.dl_owl.specs.Walk.{here, Reads};
 
-use crate::cursor::{Cursor, close, open};
+use crate::cursor::{Cursor, close, is_word, open};
 use crate::fault::OwlFault;
 use crate::name::property;
 use crate::prefixes::Prefixes;
-use dl_lex::{Keyword, TokenKind};
+use dl_lex::Keyword;
 use dl_names::NameSet;
 use dl_terms::{Base, Role};
-
-/// Whether `ObjectInverseOf` stands next.
-pub(crate) fn is_inverse(at: &Cursor) -> bool
-    ensures { IsTrue result ↔ (at.now.token.kind ≡ TokenKind.Word Keyword.ObjectInverseOf) }
-{
-    match at.kind() {
-        TokenKind::Word(Keyword::ObjectInverseOf) => true,
-        _ => false,
-    }
-}
 
 /// The role that stands next.
 pub(crate) fn role(
@@ -32,7 +22,7 @@ pub(crate) fn role(
     ensures { Reads role_then (here at.old prefixes.now names.old)
         (here at.new prefixes.now names.new) result }
 {
-    if !is_inverse(at) {
+    if !is_word(at, Keyword::ObjectInverseOf) {
         let place = property(at, prefixes, names, text)?;
         return Ok(Role {
             base: Base::Named(place),

@@ -3,7 +3,7 @@ ghost use Rattle.std.specs.Prelude.{◌≡◌, Some, None, []};
 ghost use Rattle.dl_terms.specs.declared.axiom.Axiom.TheVariants as axioms;
 ghost use Rattle.dl_owl.specs.declared.item.Item.TheVariants as item;
 ghost use Rattle.dl_owl.specs.Expected.{close_then, role_then, first_role, second_role, roles_close};
-ghost use Rattle.dl_owl.specs.Operands.{sub_role_item};
+ghost use Rattle.dl_owl.specs.Operands.{sub_role_item, one_role};
 ghost use Rattle.dl_owl.specs.Walk.{here, Reads};
 
 use crate::cursor::{Cursor, close};
@@ -13,6 +13,7 @@ use crate::list::roles;
 use crate::pair::{first_role, second_role};
 use crate::prefixes::Prefixes;
 use crate::role::{property_of, role};
+use dl_lex::Keyword;
 use dl_names::NameSet;
 use dl_terms::{Axiom, Role};
 use std::alloc::Global;
@@ -90,59 +91,29 @@ pub(crate) fn inverse_roles(
     Ok(Item::Axiom(Axiom::InverseRoles { one, two }))
 }
 
-/// The one role of an axiom.
-fn one_role(
+/// The axiom on one role that a keyword begins.
+fn characteristic(word: Keyword, role: Role) -> Axiom
+    ensures { result ≡ one_role word role }
+{
+    match word {
+        Keyword::SymmetricObjectProperty => Axiom::Symmetric(role),
+        Keyword::AsymmetricObjectProperty => Axiom::Asymmetric(role),
+        _ => Axiom::Irreflexive(role),
+    }
+}
+
+/// A role that is symmetric, asymmetric or irreflexive, as the keyword says.
+pub(crate) fn one_role(
     at: &mut Cursor,
     prefixes: &Prefixes,
     names: &mut NameSet,
     text: &mut String,
-) -> Result<Role, OwlFault>
-    ensures { Reads (λ k. role_then (λ r. close_then (k r)))
+    word: Keyword,
+) -> Result<Item, OwlFault>
+    ensures { Reads (λ k. role_then (λ r. close_then (k (item.Axiom (one_role word r)))))
         (here at.old prefixes.now names.old) (here at.new prefixes.now names.new) result }
 {
     let over = role(at, prefixes, names, text)?;
     close(at)?;
-    Ok(over)
-}
-
-/// A role that is symmetric.
-pub(crate) fn symmetric(
-    at: &mut Cursor,
-    prefixes: &Prefixes,
-    names: &mut NameSet,
-    text: &mut String,
-) -> Result<Item, OwlFault>
-    ensures { Reads (λ k. role_then (λ r. close_then (k (item.Axiom (axioms.Symmetric r)))))
-        (here at.old prefixes.now names.old) (here at.new prefixes.now names.new) result }
-{
-    let over = one_role(at, prefixes, names, text)?;
-    Ok(Item::Axiom(Axiom::Symmetric(over)))
-}
-
-/// A role that is asymmetric.
-pub(crate) fn asymmetric(
-    at: &mut Cursor,
-    prefixes: &Prefixes,
-    names: &mut NameSet,
-    text: &mut String,
-) -> Result<Item, OwlFault>
-    ensures { Reads (λ k. role_then (λ r. close_then (k (item.Axiom (axioms.Asymmetric r)))))
-        (here at.old prefixes.now names.old) (here at.new prefixes.now names.new) result }
-{
-    let over = one_role(at, prefixes, names, text)?;
-    Ok(Item::Axiom(Axiom::Asymmetric(over)))
-}
-
-/// A role that is irreflexive.
-pub(crate) fn irreflexive(
-    at: &mut Cursor,
-    prefixes: &Prefixes,
-    names: &mut NameSet,
-    text: &mut String,
-) -> Result<Item, OwlFault>
-    ensures { Reads (λ k. role_then (λ r. close_then (k (item.Axiom (axioms.Irreflexive r)))))
-        (here at.old prefixes.now names.old) (here at.new prefixes.now names.new) result }
-{
-    let over = one_role(at, prefixes, names, text)?;
-    Ok(Item::Axiom(Axiom::Irreflexive(over)))
+    Ok(Item::Axiom(characteristic(word, over)))
 }

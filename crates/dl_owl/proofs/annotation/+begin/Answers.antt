@@ -20,7 +20,7 @@ returns-in_err-advance t c =
     (here c.loop-at.at c.args.prefixes.now names) c.in_err-advance.field-0.0
     (c.loop-at.invariant names k)
     (keyword-faults Annotation (annotations_then k) (open_then (annotations_then (iri_then (value_then
-    (annotations_then k))))) c.loop-at.at c.args.prefixes.now names (c.is_annotation.ensures.0 c.loop-at-test.true)
+    (annotations_then k))))) c.loop-at.at c.args.prefixes.now names (c.is_word.ensures.0 c.loop-at-test.true)
     refl c.in_err-advance.field-0.0 c.in_err-advance.ensures))
 
 pub begin-requires : goal.begin-requires
@@ -28,7 +28,7 @@ begin-requires t c =
     let first = (c.loop-at.invariant [] prologue).ahead in
     let next : left c.advance.new.self < left c.loop-at.at =
     moved_ahead c.loop-at.at c.advance.new.self c.in_ok-advance.ensures (word_some Annotation c.loop-at.at.token.kind
-    (c.is_annotation.ensures.0 c.loop-at-test.true)) in
+    (c.is_word.ensures.0 c.loop-at-test.true)) in
     let fall : left c.advance.new.self < t = omega (arith, c.decreases, first, next) in (fall, tt)
 
 pub returns-in_err-begin : goal.returns-in_err-begin
@@ -46,7 +46,7 @@ returns-in_err-begin t c =
     (annotations_then k))))) (here c.advance.new.self c.args.prefixes.now names)
     (c.loop-at.invariant names k)
     (keyword-goes Annotation (annotations_then k) (open_then (annotations_then (iri_then (value_then
-    (annotations_then k))))) c.loop-at.at c.args.prefixes.now names (c.is_annotation.ensures.0 c.loop-at-test.true)
+    (annotations_then k))))) c.loop-at.at c.args.prefixes.now names (c.is_word.ensures.0 c.loop-at-test.true)
     refl c.advance.new.self c.in_ok-advance.ensures))
     (c.in_err-begin.ensures names (iri_then (value_then (annotations_then k)))))
 
@@ -67,7 +67,7 @@ returns-in_err-iri t c =
     (annotations_then k))))) (here c.advance.new.self c.args.prefixes.now names)
     (c.loop-at.invariant names k)
     (keyword-goes Annotation (annotations_then k) (open_then (annotations_then (iri_then (value_then
-    (annotations_then k))))) c.loop-at.at c.args.prefixes.now names (c.is_annotation.ensures.0 c.loop-at-test.true)
+    (annotations_then k))))) c.loop-at.at c.args.prefixes.now names (c.is_word.ensures.0 c.loop-at-test.true)
     refl c.advance.new.self c.in_ok-advance.ensures))
     (c.in_ok-begin.ensures names (iri_then (value_then (annotations_then k)))))
     (c.in_err-iri.ensures names (value_then (annotations_then k))))
@@ -86,7 +86,7 @@ loop-at-smaller t c =
     (iri_then (value_then (annotations_then prologue))))) (here c.advance.new.self c.args.prefixes.now []) (iri_then
     (value_then (annotations_then prologue))) (here c.begin.new.at c.args.prefixes.now [])
     (keyword-goes Annotation (annotations_then prologue) (open_then (annotations_then (iri_then (value_then
-    (annotations_then prologue))))) c.loop-at.at c.args.prefixes.now [] (c.is_annotation.ensures.0
+    (annotations_then prologue))))) c.loop-at.at c.args.prefixes.now [] (c.is_word.ensures.0
     c.loop-at-test.true) refl c.advance.new.self c.in_ok-advance.ensures)
     (c.in_ok-begin.ensures [] (iri_then (value_then (annotations_then prologue)))))
     (c.in_ok-iri.ensures [] (value_then (annotations_then prologue))))
@@ -110,7 +110,7 @@ loop-at-preserved t c =
     (annotations_then k))))) (here c.advance.new.self c.args.prefixes.now names)
     (c.loop-at.invariant names k)
     (keyword-goes Annotation (annotations_then k) (open_then (annotations_then (iri_then (value_then
-    (annotations_then k))))) c.loop-at.at c.args.prefixes.now names (c.is_annotation.ensures.0 c.loop-at-test.true)
+    (annotations_then k))))) c.loop-at.at c.args.prefixes.now names (c.is_word.ensures.0 c.loop-at-test.true)
     refl c.advance.new.self c.in_ok-advance.ensures))
     (c.in_ok-begin.ensures names (iri_then (value_then (annotations_then k)))))
     (c.in_ok-iri.ensures names (value_then (annotations_then k))))
@@ -136,7 +136,7 @@ returns-in_err-value t c =
     (annotations_then k))))) (here c.advance.new.self c.args.prefixes.now names)
     (c.loop-at.invariant names k)
     (keyword-goes Annotation (annotations_then k) (open_then (annotations_then (iri_then (value_then
-    (annotations_then k))))) c.loop-at.at c.args.prefixes.now names (c.is_annotation.ensures.0 c.loop-at-test.true)
+    (annotations_then k))))) c.loop-at.at c.args.prefixes.now names (c.is_word.ensures.0 c.loop-at-test.true)
     refl c.advance.new.self c.in_ok-advance.ensures))
     (c.in_ok-begin.ensures names (iri_then (value_then (annotations_then k)))))
     (c.in_ok-iri.ensures names (value_then (annotations_then k))))
@@ -149,5 +149,5 @@ returns t c =
     (here c.loop-at.at c.args.prefixes.now names)
     (no_annotation c.loop-at.at.token.kind (slice_range c.loop-at.at.bytes c.loop-at.at.token.start
     c.loop-at.at.token.end) c.args.prefixes.now k
-    (not_kind c.is_annotation.result _ c.is_annotation.ensures c.loop-at-test.false))
+    (not_kind c.is_word.result _ c.is_word.ensures c.loop-at-test.false))
     (c.loop-at.invariant names k)

@@ -1,7 +1,8 @@
-use Rattle.std.proofs.Common.{sym, subst}
+use Rattle.std.proofs.Common.{refl, sym, subst}
+use Rattle.dl_lex.specs.declared.keyword.Keyword.TheVariants.{ObjectPropertyDomain, ObjectPropertyRange, SymmetricObjectProperty, AsymmetricObjectProperty, IrreflexiveObjectProperty}
 use Rattle.dl_owl.specs.Operands.{operands_then}
 use Rattle.dl_owl.specs.Walk.{here, Reads}
-use Rattle.dl_owl.proofs.AxiomLemmas.{reads_as, annotations_behind, operands_other}
+use Rattle.dl_owl.proofs.AxiomLemmas.{reads_as, reads_word, annotations_behind, role_behind, role_and_parts_behind, operands_other}
 use Rattle.dl_owl.proofs.axiom.operands.Goals as goal
 
 pub returns-in-SubClassOf : goal.returns-in-SubClassOf
@@ -62,43 +63,33 @@ returns-in-InverseObjectProperties c =
 
 pub returns-in-ObjectPropertyDomain : goal.returns-in-ObjectPropertyDomain
 returns-in-ObjectPropertyDomain c =
-    subst
-    (λ w.
-    Reads (operands_then w) (here c.args.at.now c.args.prefixes.now c.args.names.now)
-    (here c.domain.new.at c.args.prefixes.now c.domain.new.names) c.domain.result)
-    (sym c.in-ObjectPropertyDomain.is) c.domain.ensures
+    reads_word role_and_parts_behind c.args.word ObjectPropertyDomain (here c.args.at.now c.args.prefixes.now c.args.names.now)
+    (here c.domain_or_range.new.at c.args.prefixes.now c.domain_or_range.new.names)
+    c.domain_or_range.result c.in-ObjectPropertyDomain.is (λ k. refl) c.domain_or_range.ensures
 
 pub returns-in-ObjectPropertyRange : goal.returns-in-ObjectPropertyRange
 returns-in-ObjectPropertyRange c =
-    subst
-    (λ w.
-    Reads (operands_then w) (here c.args.at.now c.args.prefixes.now c.args.names.now)
-    (here c.range.new.at c.args.prefixes.now c.range.new.names) c.range.result)
-    (sym c.in-ObjectPropertyRange.is) c.range.ensures
+    reads_word role_and_parts_behind c.args.word ObjectPropertyRange (here c.args.at.now c.args.prefixes.now c.args.names.now)
+    (here c.domain_or_range-in-ObjectPropertyRange.new.at c.args.prefixes.now c.domain_or_range-in-ObjectPropertyRange.new.names)
+    c.domain_or_range-in-ObjectPropertyRange.result c.in-ObjectPropertyRange.is (λ k. refl) c.domain_or_range-in-ObjectPropertyRange.ensures
 
 pub returns-in-SymmetricObjectProperty : goal.returns-in-SymmetricObjectProperty
 returns-in-SymmetricObjectProperty c =
-    subst
-    (λ w.
-    Reads (operands_then w) (here c.args.at.now c.args.prefixes.now c.args.names.now)
-    (here c.symmetric.new.at c.args.prefixes.now c.symmetric.new.names) c.symmetric.result)
-    (sym c.in-SymmetricObjectProperty.is) c.symmetric.ensures
+    reads_word role_behind c.args.word SymmetricObjectProperty (here c.args.at.now c.args.prefixes.now c.args.names.now)
+    (here c.one_role.new.at c.args.prefixes.now c.one_role.new.names)
+    c.one_role.result c.in-SymmetricObjectProperty.is (λ k. refl) c.one_role.ensures
 
 pub returns-in-AsymmetricObjectProperty : goal.returns-in-AsymmetricObjectProperty
 returns-in-AsymmetricObjectProperty c =
-    subst
-    (λ w.
-    Reads (operands_then w) (here c.args.at.now c.args.prefixes.now c.args.names.now)
-    (here c.asymmetric.new.at c.args.prefixes.now c.asymmetric.new.names) c.asymmetric.result)
-    (sym c.in-AsymmetricObjectProperty.is) c.asymmetric.ensures
+    reads_word role_behind c.args.word AsymmetricObjectProperty (here c.args.at.now c.args.prefixes.now c.args.names.now)
+    (here c.one_role-in-AsymmetricObjectProperty.new.at c.args.prefixes.now c.one_role-in-AsymmetricObjectProperty.new.names)
+    c.one_role-in-AsymmetricObjectProperty.result c.in-AsymmetricObjectProperty.is (λ k. refl) c.one_role-in-AsymmetricObjectProperty.ensures
 
 pub returns-in-IrreflexiveObjectProperty : goal.returns-in-IrreflexiveObjectProperty
 returns-in-IrreflexiveObjectProperty c =
-    subst
-    (λ w.
-    Reads (operands_then w) (here c.args.at.now c.args.prefixes.now c.args.names.now)
-    (here c.irreflexive.new.at c.args.prefixes.now c.irreflexive.new.names) c.irreflexive.result)
-    (sym c.in-IrreflexiveObjectProperty.is) c.irreflexive.ensures
+    reads_word role_behind c.args.word IrreflexiveObjectProperty (here c.args.at.now c.args.prefixes.now c.args.names.now)
+    (here c.one_role-in-IrreflexiveObjectProperty.new.at c.args.prefixes.now c.one_role-in-IrreflexiveObjectProperty.new.names)
+    c.one_role-in-IrreflexiveObjectProperty.result c.in-IrreflexiveObjectProperty.is (λ k. refl) c.one_role-in-IrreflexiveObjectProperty.ensures
 
 pub returns-in-ClassAssertion : goal.returns-in-ClassAssertion
 returns-in-ClassAssertion c =

@@ -16,15 +16,15 @@ returns-in_err-advance c =
     c.in_err-advance.field-0.0 c.from_residual.ensures.1
     (λ k.
     keyword-faults ObjectSomeValuesFrom (sub_then k) (open_then (role_then (λ r. thing_then (close_then (k (basic.SomeOf r)))))) c.args.at.now c.args.prefixes.now c.args.names.now
-    (c.is_some.ensures.0 c.if-is_some.true) refl c.in_err-advance.field-0.0 c.in_err-advance.ensures)
+    (c.is_word.ensures.0 c.if-is_word.true) refl c.in_err-advance.field-0.0 c.in_err-advance.ensures)
 
-pub returns-then-is_some : goal.returns-then-is_some
-returns-then-is_some c =
+pub returns-then-is_word : goal.returns-then-is_word
+returns-then-is_word c =
     reads_behind sub_then (λ k. (open_then (role_then (λ r. thing_then (close_then (k (basic.SomeOf r))))))) (here c.args.at.now c.args.prefixes.now c.args.names.now) (here c.advance.new.self c.args.prefixes.now c.args.names.now)
     (here c.some_of.new.at c.args.prefixes.now c.some_of.new.names) c.some_of.result
     (λ k.
     keyword-goes ObjectSomeValuesFrom (sub_then k) (open_then (role_then (λ r. thing_then (close_then (k (basic.SomeOf r)))))) c.args.at.now c.args.prefixes.now c.args.names.now
-    (c.is_some.ensures.0 c.if-is_some.true) refl c.advance.new.self c.in_ok-advance.ensures)
+    (c.is_word.ensures.0 c.if-is_word.true) refl c.advance.new.self c.in_ok-advance.ensures)
     c.some_of.ensures
 
 pub returns-in-Some : goal.returns-in-Some
@@ -34,7 +34,7 @@ returns-in-Some c =
     (sym (c.refused_sub.ensures ∙ ap (fault_of (refused_sub c.in-Some.word)) c.start-start.ensures))
     (faults-refused (sub_then k) c.args.at.now c.args.prefixes.now c.args.names.now (refused_sub c.in-Some.word)
     (sub_refused c.args.at.now.token.kind c.in-Some.word (slice_range c.args.at.now.bytes c.args.at.now.token.start c.args.at.now.token.end) c.args.prefixes.now k
-    c.in-Some.ensures (not_kind c.is_some.result _ c.is_some.ensures c.if-is_some.false)))
+    c.in-Some.ensures (not_kind c.is_word.result _ c.is_word.ensures c.if-is_word.false)))
 
 pub returns-in_err-class : goal.returns-in_err-class
 returns-in_err-class c =

@@ -20,7 +20,7 @@ returns-in_err-advance c =
     c.loop-at.at c.args.prefixes.now names) c.in_err-advance.field-0.0
     (c.loop-at.invariant names)
     (keyword-faults Annotation annotations_first (open_then (annotations_then (iri_then (value_then
-    annotations_first)))) c.loop-at.at c.args.prefixes.now names (c.is_annotation.ensures.0 c.loop-at-test.true) refl
+    annotations_first)))) c.loop-at.at c.args.prefixes.now names (c.is_word.ensures.0 c.loop-at-test.true) refl
     c.in_err-advance.field-0.0 c.in_err-advance.ensures))
 
 pub returns-in_err-begin : goal.returns-in_err-begin
@@ -37,7 +37,7 @@ returns-in_err-begin c =
     (here c.advance.new.self c.args.prefixes.now names)
     (c.loop-at.invariant names)
     (keyword-goes Annotation annotations_first (open_then (annotations_then (iri_then (value_then
-    annotations_first)))) c.loop-at.at c.args.prefixes.now names (c.is_annotation.ensures.0 c.loop-at-test.true) refl
+    annotations_first)))) c.loop-at.at c.args.prefixes.now names (c.is_word.ensures.0 c.loop-at-test.true) refl
     c.advance.new.self c.in_ok-advance.ensures))
     (c.in_err-begin.ensures names (iri_then (value_then annotations_first))))
 
@@ -57,7 +57,7 @@ returns-in_err-iri c =
     (here c.advance.new.self c.args.prefixes.now names)
     (c.loop-at.invariant names)
     (keyword-goes Annotation annotations_first (open_then (annotations_then (iri_then (value_then
-    annotations_first)))) c.loop-at.at c.args.prefixes.now names (c.is_annotation.ensures.0 c.loop-at-test.true) refl
+    annotations_first)))) c.loop-at.at c.args.prefixes.now names (c.is_word.ensures.0 c.loop-at-test.true) refl
     c.advance.new.self c.in_ok-advance.ensures))
     (c.in_ok-begin.ensures names (iri_then (value_then annotations_first))))
     (c.in_err-iri.ensures names (value_then annotations_first)))
@@ -81,7 +81,7 @@ returns-in_err-value c =
     (here c.advance.new.self c.args.prefixes.now names)
     (c.loop-at.invariant names)
     (keyword-goes Annotation annotations_first (open_then (annotations_then (iri_then (value_then
-    annotations_first)))) c.loop-at.at c.args.prefixes.now names (c.is_annotation.ensures.0 c.loop-at-test.true) refl
+    annotations_first)))) c.loop-at.at c.args.prefixes.now names (c.is_word.ensures.0 c.loop-at-test.true) refl
     c.advance.new.self c.in_ok-advance.ensures))
     (c.in_ok-begin.ensures names (iri_then (value_then annotations_first))))
     (c.in_ok-iri.ensures names (value_then annotations_first)))
@@ -100,7 +100,7 @@ loop-at-smaller c =
     (value_then annotations_first)))) (here c.advance.new.self c.args.prefixes.now []) (iri_then (value_then
     annotations_first)) (here c.begin.new.at c.args.prefixes.now [])
     (keyword-goes Annotation annotations_first (open_then (annotations_then (iri_then (value_then
-    annotations_first)))) c.loop-at.at c.args.prefixes.now [] (c.is_annotation.ensures.0 c.loop-at-test.true) refl
+    annotations_first)))) c.loop-at.at c.args.prefixes.now [] (c.is_word.ensures.0 c.loop-at-test.true) refl
     c.advance.new.self c.in_ok-advance.ensures)
     (c.in_ok-begin.ensures [] (iri_then (value_then annotations_first))))
     (c.in_ok-iri.ensures [] (value_then annotations_first)))
@@ -123,7 +123,7 @@ loop-at-preserved c =
     (here c.advance.new.self c.args.prefixes.now names)
     (c.loop-at.invariant names)
     (keyword-goes Annotation annotations_first (open_then (annotations_then (iri_then (value_then
-    annotations_first)))) c.loop-at.at c.args.prefixes.now names (c.is_annotation.ensures.0 c.loop-at-test.true) refl
+    annotations_first)))) c.loop-at.at c.args.prefixes.now names (c.is_word.ensures.0 c.loop-at-test.true) refl
     c.advance.new.self c.in_ok-advance.ensures))
     (c.in_ok-begin.ensures names (iri_then (value_then annotations_first))))
     (c.in_ok-iri.ensures names (value_then annotations_first)))
@@ -135,5 +135,5 @@ returns c =
     goes_as (open_then (title 2)) (here c.args.at.now c.args.prefixes.now names) annotations_first (items
     empty_document) (here c.loop-at.at c.args.prefixes.now names)
     (no_first c.loop-at.at.token.kind (slice_range c.loop-at.at.bytes c.loop-at.at.token.start c.loop-at.at.token.end)
-    (not_kind c.is_annotation.result _ c.is_annotation.ensures c.loop-at-test.false))
+    (not_kind c.is_word.result _ c.is_word.ensures c.loop-at-test.false))
     (c.loop-at.invariant names)

@@ -14,14 +14,14 @@ use Rattle.dl_owl.proofs.OntologyLemmas.{exit_by, items_closed, items_import, it
 use Rattle.dl_owl.proofs.WalkLemmas.{no_memory}
 use Rattle.dl_owl.proofs.ontology.items.Goals as goal
 
-pub returns-then-is_import : goal.returns-then-is_import
-returns-then-is_import c =
+pub returns-then-is_word : goal.returns-then-is_word
+returns-then-is_word c =
     subst (λ n. Faults (items empty_document) (here c.args.at.now c.args.prefixes.now c.args.names.now) c.stated.names
     (fault.LeftOut n (construct.Keyword Import))) (sym c.start-start.ensures)
     (c.stated.invariant.faults c.stated.names (fault.LeftOut c.stated.at.token.start (construct.Keyword Import))
     (faults-refused (items c.stated.document) c.stated.at c.args.prefixes.now c.stated.names (keyword_left_out Import)
     (items_import c.stated.at.token.kind (slice_range c.stated.at.bytes c.stated.at.token.start
-    c.stated.at.token.end) c.stated.document (c.is_import.ensures.0 c.if-is_import.true))))
+    c.stated.at.token.end) c.stated.document (c.is_word.ensures.0 c.if-is_word.true))))
 
 pub returns-in_err-item : goal.returns-in_err-item
 returns-in_err-item c =
@@ -32,7 +32,7 @@ returns-in_err-item c =
     (c.in_err-item.ensures (items c.stated.document) (λ i. items (with_item c.stated.document i))
     (items_axiom c.stated.at.token.kind (slice_range c.stated.at.bytes c.stated.at.token.start c.stated.at.token.end)
     c.stated.document (not_kind c.is_close.result _ c.is_close.ensures c.stated-test.true)
-    (not_kind c.is_import.result _ c.is_import.ensures c.if-is_import.false))))
+    (not_kind c.is_word.result _ c.is_word.ensures c.if-is_word.false))))
 
 pub stated-smaller : goal.stated-smaller
 stated-smaller c =
@@ -43,7 +43,7 @@ stated-smaller c =
     (c.in_ok-item.ensures (items c.stated.document) (λ i. items (with_item c.stated.document i))
     (items_axiom c.stated.at.token.kind (slice_range c.stated.at.bytes c.stated.at.token.start c.stated.at.token.end)
     c.stated.document (not_kind c.is_close.result _ c.is_close.ensures c.stated-test.true)
-    (not_kind c.is_import.result _ c.is_import.ensures c.if-is_import.false))) in
+    (not_kind c.is_word.result _ c.is_word.ensures c.if-is_word.false))) in
     round.ahead
 
 pub stated-preserved : goal.stated-preserved
@@ -56,7 +56,7 @@ stated-preserved c =
     (c.in_ok-item.ensures (items c.stated.document) (λ i. items (with_item c.stated.document i))
     (items_axiom c.stated.at.token.kind (slice_range c.stated.at.bytes c.stated.at.token.start c.stated.at.token.end)
     c.stated.document (not_kind c.is_close.result _ c.is_close.ensures c.stated-test.true)
-    (not_kind c.is_import.result _ c.is_import.ensures c.if-is_import.false))))
+    (not_kind c.is_word.result _ c.is_word.ensures c.if-is_word.false))))
 
 pub returns-in_err-close : goal.returns-in_err-close
 returns-in_err-close c =
@@ -90,4 +90,4 @@ returns-in_err-add c =
     (c.in_ok-item.ensures (items c.stated.document) (λ i. items (with_item c.stated.document i))
     (items_axiom c.stated.at.token.kind (slice_range c.stated.at.bytes c.stated.at.token.start c.stated.at.token.end)
     c.stated.document (not_kind c.is_close.result _ c.is_close.ensures c.stated-test.true)
-    (not_kind c.is_import.result _ c.is_import.ensures c.if-is_import.false))).grows))
+    (not_kind c.is_word.result _ c.is_word.ensures c.if-is_word.false))).grows))

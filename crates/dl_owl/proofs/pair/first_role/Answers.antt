@@ -11,8 +11,8 @@ use Rattle.dl_owl.proofs.SeriesLemmas.{reads_alike}
 use Rattle.dl_owl.proofs.PairLemmas.{chain_refused, first_plain}
 use Rattle.dl_owl.proofs.pair.first_role.Goals as goal
 
-pub returns-then-is_chain : goal.returns-then-is_chain
-returns-then-is_chain c =
+pub returns-then-is_word : goal.returns-then-is_word
+returns-then-is_word c =
     λ k.
     subst
     (λ n.
@@ -22,7 +22,7 @@ returns-then-is_chain c =
     (faults-refused (first_role k) c.args.at.now c.args.prefixes.now c.args.names.now (not_ql ObjectPropertyChain)
     (chain_refused c.args.at.now.token.kind
     (slice_range c.args.at.now.bytes c.args.at.now.token.start c.args.at.now.token.end) c.args.prefixes.now k
-    (c.is_chain.ensures.0 c.if-is_chain.true)))
+    (c.is_word.ensures.0 c.if-is_word.true)))
 
 pub returns : goal.returns
 returns c =
@@ -31,5 +31,5 @@ returns c =
     (λ k.
     first_plain c.args.at.now.token.kind
     (slice_range c.args.at.now.bytes c.args.at.now.token.start c.args.at.now.token.end) c.args.prefixes.now k
-    (not_kind c.is_chain.result _ c.is_chain.ensures c.if-is_chain.false))
+    (not_kind c.is_word.result _ c.is_word.ensures c.if-is_word.false))
     c.role.ensures

@@ -24,11 +24,11 @@ returns-in_err-over c =
     (second_inverse c.args.at.now.token.kind
     (slice_range c.args.at.now.bytes c.args.at.now.token.start c.args.at.now.token.end) c.args.prefixes.now
     (λ r. k (Some r)) (k None)
-    (c.is_inverse.ensures.0 c.if-is_inverse.true))
+    (c.is_word.ensures.0 c.if-is_word.true))
     (c.in_err-over.ensures (λ r. k (Some r))))
 
-pub returns-then-is_inverse : goal.returns-then-is_inverse
-returns-then-is_inverse c =
+pub returns-then-is_word : goal.returns-then-is_word
+returns-then-is_word c =
     λ k.
     goes_alike (second_role (λ r. k (Some r)) (k None)) (role_then (λ r. k (Some r)))
     (here c.args.at.now c.args.prefixes.now c.args.names.now) (k (Some c.in_ok-over.over))
@@ -36,7 +36,7 @@ returns-then-is_inverse c =
     (second_inverse c.args.at.now.token.kind
     (slice_range c.args.at.now.bytes c.args.at.now.token.start c.args.at.now.token.end) c.args.prefixes.now
     (λ r. k (Some r)) (k None)
-    (c.is_inverse.ensures.0 c.if-is_inverse.true))
+    (c.is_word.ensures.0 c.if-is_word.true))
     (c.in_ok-over.ensures (λ r. k (Some r)))
 
 pub returns-in_err-expect_iri : goal.returns-in_err-expect_iri
@@ -52,7 +52,7 @@ returns-in_err-expect_iri c =
     (second_plain c.args.at.now.token.kind
     (slice_range c.args.at.now.bytes c.args.at.now.token.start c.args.at.now.token.end) c.args.prefixes.now
     (λ r. k (Some r)) (k None)
-    (not_kind c.is_inverse.result _ c.is_inverse.ensures c.if-is_inverse.false)))
+    (not_kind c.is_word.result _ c.is_word.ensures c.if-is_word.false)))
 
 pub returns-in_err-advance : goal.returns-in_err-advance
 returns-in_err-advance c =
@@ -69,7 +69,7 @@ returns-in_err-advance c =
     (second_plain c.args.at.now.token.kind
     (slice_range c.args.at.now.bytes c.args.at.now.token.start c.args.at.now.token.end) c.args.prefixes.now
     (λ r. k (Some r)) (k None)
-    (not_kind c.is_inverse.result _ c.is_inverse.ensures c.if-is_inverse.false)
+    (not_kind c.is_word.result _ c.is_word.ensures c.if-is_word.false)
     ∙ second_top p (symbol_at c.args.at.now) text iri (λ r. k (Some r)) (k None)
     (sym c.is_top.ensures ∙ c.if-is_top.true))
     c.in_err-advance.field-0.0 c.in_err-advance.ensures)
@@ -85,7 +85,7 @@ returns-then-is_top c =
     (second_plain c.args.at.now.token.kind
     (slice_range c.args.at.now.bytes c.args.at.now.token.start c.args.at.now.token.end) c.args.prefixes.now
     (λ r. k (Some r)) (k None)
-    (not_kind c.is_inverse.result _ c.is_inverse.ensures c.if-is_inverse.false)
+    (not_kind c.is_word.result _ c.is_word.ensures c.if-is_word.false)
     ∙ second_top p (symbol_at c.args.at.now) text iri (λ r. k (Some r)) (k None)
     (sym c.is_top.ensures ∙ c.if-is_top.true))
     c.advance.new.self c.in_ok-advance.ensures
@@ -105,7 +105,7 @@ returns-in_err-place c =
     (second_plain c.args.at.now.token.kind
     (slice_range c.args.at.now.bytes c.args.at.now.token.start c.args.at.now.token.end) c.args.prefixes.now
     (λ r. k (Some r)) (k None)
-    (not_kind c.is_inverse.result _ c.is_inverse.ensures c.if-is_inverse.false)
+    (not_kind c.is_word.result _ c.is_word.ensures c.if-is_word.false)
     ∙ second_other p (symbol_at c.args.at.now) text iri (λ r. k (Some r)) (k None)
     (sym c.is_top.ensures ∙ c.if-is_top.false)))
 
@@ -120,6 +120,6 @@ returns c =
     (second_plain c.args.at.now.token.kind
     (slice_range c.args.at.now.bytes c.args.at.now.token.start c.args.at.now.token.end) c.args.prefixes.now
     (λ r. k (Some r)) (k None)
-    (not_kind c.is_inverse.result _ c.is_inverse.ensures c.if-is_inverse.false)
+    (not_kind c.is_word.result _ c.is_word.ensures c.if-is_word.false)
     ∙ second_other p (symbol_at c.args.at.now) text iri (λ r. k (Some r)) (k None)
     (sym c.is_top.ensures ∙ c.if-is_top.false))

@@ -10,9 +10,9 @@ use Rattle.dl_owl.proofs.ReaderLemmas.{keyword-goes, keyword-faults}
 use Rattle.dl_owl.proofs.SeriesLemmas.{exit_by, appends_behind, series_start, series_next, series_next_faults, series_again, series_again_faults, series_closes, parts_behind, sups_series}
 use Rattle.dl_owl.proofs.right.+parts.Goals as goal
 
-pub add_parts-returns-then-not-is_intersection : goal.add_parts-returns-then-not-is_intersection
-add_parts-returns-then-not-is_intersection t c =
-    c.add_part.ensures (not_kind c.is_intersection.result _ c.is_intersection.ensures c.if-not-is_intersection.true)
+pub add_parts-returns-then-not-is_word : goal.add_parts-returns-then-not-is_word
+add_parts-returns-then-not-is_word t c =
+    c.add_part.ensures (not_kind c.is_word.result _ c.is_word.ensures c.if-not-is_word.true)
 
 pub add_parts-returns-in_err-advance : goal.add_parts-returns-in_err-advance
 add_parts-returns-in_err-advance t c =
@@ -21,7 +21,7 @@ add_parts-returns-in_err-advance t c =
     c.from_residual.result c.in_err-advance.field-0.0 c.from_residual.ensures.1
     (λ k.
     keyword-faults ObjectIntersectionOf (sup_then k) (parts_behind k) c.args.at.now c.args.prefixes.now
-    c.args.names.now (c.is_intersection.ensures.0 c.if-not-is_intersection.false) refl c.in_err-advance.field-0.0
+    c.args.names.now (c.is_word.ensures.0 c.if-not-is_word.false) refl c.in_err-advance.field-0.0
     c.in_err-advance.ensures)
 
 pub add_parts-intersection-requires : goal.add_parts-intersection-requires
@@ -29,7 +29,7 @@ add_parts-intersection-requires t c =
     let next : left c.advance.new.self < left c.args.at.now =
     moved_ahead c.args.at.now c.advance.new.self c.in_ok-advance.ensures
     (word_some ObjectIntersectionOf c.args.at.now.token.kind
-    (c.is_intersection.ensures.0 c.if-not-is_intersection.false)) in
+    (c.is_word.ensures.0 c.if-not-is_word.false)) in
     let fall : left c.advance.new.self < t = omega (arith, c.decreases, next) in (fall, tt)
 
 pub add_parts-returns : goal.add_parts-returns
@@ -41,7 +41,7 @@ add_parts-returns t c =
     c.intersection.result
     (λ k.
     keyword-goes ObjectIntersectionOf (sup_then k) (parts_behind k) c.args.at.now c.args.prefixes.now
-    c.args.names.now (c.is_intersection.ensures.0 c.if-not-is_intersection.false) refl c.advance.new.self
+    c.args.names.now (c.is_word.ensures.0 c.if-not-is_word.false) refl c.advance.new.self
     c.in_ok-advance.ensures)
     c.intersection.ensures
 

@@ -23,11 +23,11 @@ returns-in_err-advance c =
     (λ k.
     keyword-faults ObjectSomeValuesFrom (sup_then k)
     (open_then (role_then (λ r. filler_then r (λ part. close_then (k (part ∷ [])))))) c.args.at.now
-    c.args.prefixes.now c.args.names.now (c.is_some.ensures.0 c.if-is_some.true) refl c.in_err-advance.field-0.0
+    c.args.prefixes.now c.args.names.now (c.is_word.ensures.0 c.if-is_word.true) refl c.in_err-advance.field-0.0
     c.in_err-advance.ensures)
 
-pub returns-then-is_some : goal.returns-then-is_some
-returns-then-is_some c =
+pub returns-then-is_word : goal.returns-then-is_word
+returns-then-is_word c =
     λ not.
     one_behind sup_then (λ k. open_then (role_then (λ r. filler_then r (λ part. close_then (k part)))))
     (here c.args.at.now c.args.prefixes.now c.args.names.now)
@@ -36,7 +36,7 @@ returns-then-is_some c =
     (λ k.
     keyword-goes ObjectSomeValuesFrom (sup_then k)
     (open_then (role_then (λ r. filler_then r (λ part. close_then (k (part ∷ [])))))) c.args.at.now
-    c.args.prefixes.now c.args.names.now (c.is_some.ensures.0 c.if-is_some.true) refl c.advance.new.self
+    c.args.prefixes.now c.args.names.now (c.is_word.ensures.0 c.if-is_word.true) refl c.advance.new.self
     c.in_ok-advance.ensures)
     c.some_part.ensures
 
@@ -44,24 +44,24 @@ pub returns-in_err-advance-2 : goal.returns-in_err-advance-2
 returns-in_err-advance-2 c =
     λ not.
     exit_by (ReadsOne sup_then (here c.args.at.now c.args.prefixes.now c.args.names.now)
-    (here c.advance-then-is_complement.new.self c.args.prefixes.now c.args.names.now))
+    (here c.advance-then-is_word-2.new.self c.args.prefixes.now c.args.names.now))
     c.from_residual-in_err-advance-2.result c.in_err-advance-2.field-0.0 c.from_residual-in_err-advance-2.ensures.1
     (λ k.
     keyword-faults ObjectComplementOf (sup_then k) (open_then (sub_then (λ b. close_then (k (part.Not b ∷ [])))))
-    c.args.at.now c.args.prefixes.now c.args.names.now (c.is_complement.ensures.0 c.if-is_complement.true) refl
+    c.args.at.now c.args.prefixes.now c.args.names.now (c.is_word-2.ensures.0 c.if-is_word-2.true) refl
     c.in_err-advance-2.field-0.0 c.in_err-advance-2.ensures)
 
-pub returns-then-is_complement : goal.returns-then-is_complement
-returns-then-is_complement c =
+pub returns-then-is_word-2 : goal.returns-then-is_word-2
+returns-then-is_word-2 c =
     λ not.
     one_behind sup_then (λ k. open_then (sub_then (λ b. close_then (k (part.Not b)))))
     (here c.args.at.now c.args.prefixes.now c.args.names.now)
-    (here c.advance-then-is_complement.new.self c.args.prefixes.now c.args.names.now)
+    (here c.advance-then-is_word-2.new.self c.args.prefixes.now c.args.names.now)
     (here c.complement.new.at c.args.prefixes.now c.complement.new.names) c.complement.result
     (λ k.
     keyword-goes ObjectComplementOf (sup_then k) (open_then (sub_then (λ b. close_then (k (part.Not b ∷ [])))))
-    c.args.at.now c.args.prefixes.now c.args.names.now (c.is_complement.ensures.0 c.if-is_complement.true) refl
-    c.advance-then-is_complement.new.self c.in_ok-advance-2.ensures)
+    c.args.at.now c.args.prefixes.now c.args.names.now (c.is_word-2.ensures.0 c.if-is_word-2.true) refl
+    c.advance-then-is_word-2.new.self c.in_ok-advance-2.ensures)
     c.complement.ensures
 
 pub returns-in-Some : goal.returns-in-Some
@@ -72,8 +72,8 @@ returns-in-Some c =
     (faults-refused (sup_then k) c.args.at.now c.args.prefixes.now c.args.names.now (refused_sup c.in-Some.word)
     (sup_refused c.args.at.now.token.kind c.in-Some.word
     (slice_range c.args.at.now.bytes c.args.at.now.token.start c.args.at.now.token.end) c.args.prefixes.now k
-    c.in-Some.ensures not (not_kind c.is_complement.result _ c.is_complement.ensures c.if-is_complement.false)
-    (not_kind c.is_some.result _ c.is_some.ensures c.if-is_some.false)))
+    c.in-Some.ensures not (not_kind c.is_word-2.result _ c.is_word-2.ensures c.if-is_word-2.false)
+    (not_kind c.is_word.result _ c.is_word.ensures c.if-is_word.false)))
 
 pub returns-in_err-class_or_thing : goal.returns-in_err-class_or_thing
 returns-in_err-class_or_thing c =

@@ -15,16 +15,16 @@ returns-in_err-place c =
     (λ k.
     faults_alike (role_then k) (property_then (λ n. k (named n))) (here c.args.at.now c.args.prefixes.now c.args.names.now) c.in_err-place.field-0.0
     (role_plain c.args.at.now.token.kind (slice_range c.args.at.now.bytes c.args.at.now.token.start c.args.at.now.token.end) c.args.prefixes.now k
-    (not_kind c.is_inverse.result _ c.is_inverse.ensures c.if-not-is_inverse.true))
+    (not_kind c.is_word.result _ c.is_word.ensures c.if-not-is_word.true))
     (c.in_err-place.ensures (λ n. k (named n))))
 
-pub returns-then-not-is_inverse : goal.returns-then-not-is_inverse
-returns-then-not-is_inverse c =
+pub returns-then-not-is_word : goal.returns-then-not-is_word
+returns-then-not-is_word c =
     λ k.
     goes_alike (role_then k) (property_then (λ n. k (named n))) (here c.args.at.now c.args.prefixes.now c.args.names.now) (k (named c.in_ok-place.place))
     (here c.property.new.at c.args.prefixes.now c.property.new.names)
     (role_plain c.args.at.now.token.kind (slice_range c.args.at.now.bytes c.args.at.now.token.start c.args.at.now.token.end) c.args.prefixes.now k
-    (not_kind c.is_inverse.result _ c.is_inverse.ensures c.if-not-is_inverse.true))
+    (not_kind c.is_word.result _ c.is_word.ensures c.if-not-is_word.true))
     (c.in_ok-place.ensures (λ n. k (named n)))
 
 pub returns-in_err-advance : goal.returns-in_err-advance
@@ -33,7 +33,7 @@ returns-in_err-advance c =
     c.in_err-advance.field-0.0 c.from_residual-in_err-advance.ensures.1
     (λ k.
     keyword-faults ObjectInverseOf (role_then k) (open_then (property_then (λ n. close_then (k (inverse_of (named n)))))) c.args.at.now c.args.prefixes.now c.args.names.now
-    (c.is_inverse.ensures.0 c.if-not-is_inverse.false) refl c.in_err-advance.field-0.0 c.in_err-advance.ensures)
+    (c.is_word.ensures.0 c.if-not-is_word.false) refl c.in_err-advance.field-0.0 c.in_err-advance.ensures)
 
 pub returns-in_err-open : goal.returns-in_err-open
 returns-in_err-open c =
@@ -42,7 +42,7 @@ returns-in_err-open c =
     (λ k.
     goes-faults (role_then k) (here c.args.at.now c.args.prefixes.now c.args.names.now) (open_then (property_then (λ n. close_then (k (inverse_of (named n)))))) (here c.advance.new.self c.args.prefixes.now c.args.names.now) c.in_err-open.field-0.0
     (keyword-goes ObjectInverseOf (role_then k) (open_then (property_then (λ n. close_then (k (inverse_of (named n)))))) c.args.at.now c.args.prefixes.now c.args.names.now
-    (c.is_inverse.ensures.0 c.if-not-is_inverse.false) refl c.advance.new.self c.in_ok-advance.ensures)
+    (c.is_word.ensures.0 c.if-not-is_word.false) refl c.advance.new.self c.in_ok-advance.ensures)
     (c.in_err-open.ensures c.args.prefixes.now c.args.names.now (property_then (λ n. close_then (k (inverse_of (named n)))))))
 
 pub returns-in_err-place-2 : goal.returns-in_err-place-2
@@ -53,7 +53,7 @@ returns-in_err-place-2 c =
     goes-faults (role_then k) (here c.args.at.now c.args.prefixes.now c.args.names.now) (property_then (λ n. close_then (k (inverse_of (named n))))) (here c.open.new.at c.args.prefixes.now c.args.names.now) c.in_err-place-2.field-0.0
     (goes-then (role_then k) (here c.args.at.now c.args.prefixes.now c.args.names.now) (open_then (property_then (λ n. close_then (k (inverse_of (named n)))))) (here c.advance.new.self c.args.prefixes.now c.args.names.now) (property_then (λ n. close_then (k (inverse_of (named n))))) (here c.open.new.at c.args.prefixes.now c.args.names.now)
     (keyword-goes ObjectInverseOf (role_then k) (open_then (property_then (λ n. close_then (k (inverse_of (named n)))))) c.args.at.now c.args.prefixes.now c.args.names.now
-    (c.is_inverse.ensures.0 c.if-not-is_inverse.false) refl c.advance.new.self c.in_ok-advance.ensures)
+    (c.is_word.ensures.0 c.if-not-is_word.false) refl c.advance.new.self c.in_ok-advance.ensures)
     (c.in_ok-open.ensures c.args.prefixes.now c.args.names.now (property_then (λ n. close_then (k (inverse_of (named n)))))))
     (c.in_err-place-2.ensures (λ n. close_then (k (inverse_of (named n))))))
 
@@ -66,7 +66,7 @@ returns-in_err-close c =
     (goes-then (role_then k) (here c.args.at.now c.args.prefixes.now c.args.names.now) (property_then (λ n. close_then (k (inverse_of (named n))))) (here c.open.new.at c.args.prefixes.now c.args.names.now) (close_then (k (inverse_of (named c.in_ok-place-2.place)))) (here c.property-2.new.at c.args.prefixes.now c.property-2.new.names)
     (goes-then (role_then k) (here c.args.at.now c.args.prefixes.now c.args.names.now) (open_then (property_then (λ n. close_then (k (inverse_of (named n)))))) (here c.advance.new.self c.args.prefixes.now c.args.names.now) (property_then (λ n. close_then (k (inverse_of (named n))))) (here c.open.new.at c.args.prefixes.now c.args.names.now)
     (keyword-goes ObjectInverseOf (role_then k) (open_then (property_then (λ n. close_then (k (inverse_of (named n)))))) c.args.at.now c.args.prefixes.now c.args.names.now
-    (c.is_inverse.ensures.0 c.if-not-is_inverse.false) refl c.advance.new.self c.in_ok-advance.ensures)
+    (c.is_word.ensures.0 c.if-not-is_word.false) refl c.advance.new.self c.in_ok-advance.ensures)
     (c.in_ok-open.ensures c.args.prefixes.now c.args.names.now (property_then (λ n. close_then (k (inverse_of (named n)))))))
     (c.in_ok-place-2.ensures (λ n. close_then (k (inverse_of (named n))))))
     (c.in_err-close.ensures c.args.prefixes.now c.property-2.new.names (k (inverse_of (named c.in_ok-place-2.place)))))
@@ -78,7 +78,7 @@ returns c =
     (goes-then (role_then k) (here c.args.at.now c.args.prefixes.now c.args.names.now) (property_then (λ n. close_then (k (inverse_of (named n))))) (here c.open.new.at c.args.prefixes.now c.args.names.now) (close_then (k (inverse_of (named c.in_ok-place-2.place)))) (here c.property-2.new.at c.args.prefixes.now c.property-2.new.names)
     (goes-then (role_then k) (here c.args.at.now c.args.prefixes.now c.args.names.now) (open_then (property_then (λ n. close_then (k (inverse_of (named n)))))) (here c.advance.new.self c.args.prefixes.now c.args.names.now) (property_then (λ n. close_then (k (inverse_of (named n))))) (here c.open.new.at c.args.prefixes.now c.args.names.now)
     (keyword-goes ObjectInverseOf (role_then k) (open_then (property_then (λ n. close_then (k (inverse_of (named n)))))) c.args.at.now c.args.prefixes.now c.args.names.now
-    (c.is_inverse.ensures.0 c.if-not-is_inverse.false) refl c.advance.new.self c.in_ok-advance.ensures)
+    (c.is_word.ensures.0 c.if-not-is_word.false) refl c.advance.new.self c.in_ok-advance.ensures)
     (c.in_ok-open.ensures c.args.prefixes.now c.args.names.now (property_then (λ n. close_then (k (inverse_of (named n)))))))
     (c.in_ok-place-2.ensures (λ n. close_then (k (inverse_of (named n))))))
     (c.in_ok-close.ensures c.args.prefixes.now c.property-2.new.names (k (inverse_of (named c.in_ok-place-2.place))))
