@@ -36,76 +36,11 @@ use Rattle.dl_answer.proofs.FactLemmas.{pairs_exist}
 use Rattle.dl_answer.proofs.TupleLemmas.{Decided, picked, some_decided, set_exists, exactly_exists, exactly_none, union_exists}
 use Rattle.dl_answer.proofs.StepLemmas.{holds_alike, exactly_over, exactly_same}
 
--- ---- chains
-
-module _ {A : Type 0} {R : A → A → Ordering} (l : IsLinear R) where
-  same_decided : (x y : A) → Decided (x ≡ y)
-  same_decided x y = by (R x y) refl
-    where
-      by : (o : Ordering) → R x y ≡ o → Decided (x ≡ y)
-      by Less e = inr (λ same. not_itself l.total x y e same)
-      by Equal e = inl (l.equal x y e)
-      by Greater e = inr (λ same. not_itself l.total y x (l.total.antisymm y x ∙ ap ordering_reverse e) (sym same))
-
-  -- a chain takes the first of the steps, or not
-  first_taken : (e : A × A) (steps : List (A × A)) (a b : A) → Chain (IsStep (e ∷ steps)) a b
-      → Chain (IsStep steps) a b ⊎ (Chain (IsStep steps) a e.0 × Chain (IsStep steps) e.1 b)
-  first_taken e steps a b Chain.empty = inl Chain.empty
-  first_taken e steps a b (Chain.step {b = m} s rest) = by (Contains-cons e (a, m) steps s)
-      (first_taken e steps m b rest)
-    where
-      by : (e ≡ (a, m)) ⊎ Contains steps (a, m)
-          → Chain (IsStep steps) m b ⊎ (Chain (IsStep steps) m e.0 × Chain (IsStep steps) e.1 b)
-          → Chain (IsStep steps) a b ⊎ (Chain (IsStep steps) a e.0 × Chain (IsStep steps) e.1 b)
-      by (inl here) (inl old) = inr (
-        subst (λ (x : A × A). Chain (IsStep steps) a x.0) (sym here) Chain.empty,
-        subst (λ (x : A × A). Chain (IsStep steps) x.1 b) (sym here) old,
-      )
-      by (inl here) (inr both) = inr (subst (λ (x : A × A). Chain (IsStep steps) a x.0) (sym here) Chain.empty, both.1)
-      by (inr there) (inl old) = inl (Chain.step there old)
-      by (inr there) (inr both) = inr (Chain.step there both.0, both.1)
-
-  no_step : (a b : A) → Chain (IsStep {A = A} []) a b → a ≡ b
-  no_step a b Chain.empty = refl
-  no_step a b (Chain.step {b = m} s rest) = absurd (Contains-nil (a, m) s)
-
-  more_steps : (e : A × A) (steps : List (A × A)) (a b : A) → Chain (IsStep steps) a b → Chain (IsStep (e ∷ steps)) a b
-  more_steps e steps a b Chain.empty = Chain.empty
-  more_steps e steps a b (Chain.step {b = m} s rest) = Chain.step (Contains-later e (a, m) steps s)
-      (more_steps e steps m b rest)
-
-  pub chain_decided : (steps : List (A × A)) (a b : A) → Decided (Chain (IsStep steps) a b)
-  chain_decided [] a b = by (same_decided a b)
-    where
-      by : Decided (a ≡ b) → Decided (Chain (IsStep {A = A} []) a b)
-      by (inl same) = inl (subst (Chain (IsStep {A = A} []) a) same Chain.empty)
-      by (inr other) = inr (λ c. other (no_step a b c))
-  chain_decided (e ∷ steps) a b = by (chain_decided steps a b) (chain_decided steps a e.0) (chain_decided steps e.1 b)
-    where
-      by : Decided (Chain (IsStep steps) a b) → Decided (Chain (IsStep steps) a e.0)
-          → Decided (Chain (IsStep steps) e.1 b) → Decided (Chain (IsStep (e ∷ steps)) a b)
-      by (inl c) to from = inl (more_steps e steps a b c)
-      by (inr none) (inl to) (inl from) = inl
-          (Chain-trans (more_steps e steps a e.0 to)
-          (Chain-trans (Chain-one (Contains-first e steps)) (more_steps e steps e.1 b from)))
-      by (inr none) (inl to) (inr from) = inr (λ c. elim (first_taken e steps a b c)
-          [ inl old ↦ none old | inr both ↦ from both.1 ])
-      by (inr none) (inr to) from = inr (λ c. elim (first_taken e steps a b c)
-          [ inl old ↦ none old | inr both ↦ to both.0 ])
-
 -- ---- what is below a probe
 
 module _ (axioms : List Axiom) (h : Hierarchy) (of : IsHierarchyOf h axioms) where
-  role_decided : (r s : Role) → Decided (RoleBelow axioms r s)
-  role_decided r s = elim (chain_decided roles_linear h.role_steps r s)
-      [ inl c ↦ inl ((of.roles r s).1 c) | inr none ↦ inr (λ b. none ((of.roles r s).0 b)) ]
-
-  concept_decided : (b c : Basic) → Decided (ConceptBelow axioms b c)
-  concept_decided b c = elim (chain_decided basics_linear h.concept_steps b c)
-      [ inl d ↦ inl ((of.concepts b c).1 d) | inr none ↦ inr (λ d. none ((of.concepts b c).0 d)) ]
-
   one_of_decided : (basics : List Basic) (b : Basic) → Decided (IsBelowOneOf axioms basics b)
-  one_of_decided basics b = elim (some_decided (λ c. ConceptBelow axioms b c) (λ c. concept_decided b c) basics) [
+  one_of_decided basics b = elim (some_decided (λ c. ConceptBelow axioms b c) (λ c. concept_decided axioms b c) basics) [
     | inl w ↦ inl (w.1.0, w.0, w.1.1, w.1.2, w.2)
     | inr none ↦ inr (λ some. none (some.1, (some.0, some.2, some.3), some.4))
   ]
@@ -134,9 +69,9 @@ module _ (axioms : List Axiom) (h : Hierarchy) (of : IsHierarchyOf h axioms) whe
       (below, (classes.1, forward.1, backward.1))
   below_exists (Joined role t u) =
       let forward = those_exist h.predicates.properties (λ r. RoleBelow axioms (named r) (named role))
-      (λ r. role_decided (named r) (named role)) in
+      (λ r. role_decided axioms (named r) (named role)) in
       let backward = those_exist h.predicates.properties (λ r. RoleBelow axioms (inverse_of (named r)) (named role))
-      (λ r. role_decided (inverse_of (named r)) (named role)) in
+      (λ r. role_decided axioms (inverse_of (named r)) (named role)) in
       let below : Below = record { classes = []; forward = forward.0; backward = backward.0 } in
       (below, (refl, forward.1, backward.1))
 

@@ -1,8 +1,9 @@
 -- What the calls of a hierarchy ask of each other and give, from its two graphs.
-use Rattle.std.proofs.Common.{◌≡◌, ℕ, ◌+◌, ◌*◌, ◌<◌, ◌≤◌, ◌↔◌, List, [], ◌∷◌, length, get_or, All, Contains, sym, ap, subst, ◌∙◌, arith}
+use Rattle.std.proofs.Common.{◌≡◌, ℕ, ◌+◌, ◌*◌, ◌<◌, ◌≤◌, ◌↔◌, List, [], ◌∷◌, length, get_or, slice_index_or, All, Contains, sym, ap, subst, ◌∙◌, arith}
 use Rattle.std.specs.declared.cmp.Ordering.{Ordering}
 use Rattle.std.specs.Ordering.{nat_cmp}
 use Rattle.std.specs.List.Sorted.{IsStrictlySortedBy}
+use Rattle.std.proofs.lemmas.List.{get_or_default}
 use Rattle.std.proofs.lemmas.List.Elements.{Contains-get_or}
 use Rattle.dl_terms.specs.Order.{role_cmp}
 use Rattle.dl_terms.specs.Roles.{named, inverse_of}
@@ -47,6 +48,10 @@ pub basics_few : (p : Predicates) → AreInOrder p → length (basics p) ≤ 819
 basics_few p order =
     let few = order.few in
     omega (arith, few, length-roles p, length-basics p)
+
+-- an item stands at its place
+at : (names : List ℕ) (i : ℕ) → i < length names → StandsAt names i (slice_index_or names i 0)
+at names i within = record { within = within; is = get_or_default names i (slice_index_or names i 0) 0 within }
 
 module _ (p : Predicates) (list : List Role) (of_roles of_basics : Digraph) (are : AreGraphsOf p list of_roles of_basics) where
   pub role_nodes_few : of_roles.nodes ≤ max_nodes
@@ -142,6 +147,25 @@ module _ (p : Predicates) (list : List Role) (of_roles of_basics : Digraph) (are
           (λ k q at. role_leads p list of_roles of_basics are axioms over role targets nodes (1 + k * 2) (inverse_of (named q)) (inverse_node p k q at))
           (subst (λ l. ArePicked nat_cmp l (λ k. LeadsToOneOf of_roles targets (1 + k * 2)) found) e
           (subst (λ t. ArePicked nat_cmp names (λ k. LeadsToOneOf of_roles t (1 + k * 2)) found) same picked)))
+
+    -- class_order and role_order
+    pub class_chains : (i j : ℕ) → i < length p.classes → j < length p.classes → Walk (IsEdge of_basics) (0 + i * 1) (0 + j * 1)
+        ↔ ConceptBelow axioms (Class (slice_index_or h.predicates.classes i 0)) (Class (slice_index_or h.predicates.classes j 0))
+    class_chains i j i_in j_in =
+        subst (λ x. Walk (IsEdge of_basics) (0 + i * 1) (0 + j * 1)
+        ↔ ConceptBelow axioms (Class (slice_index_or x.predicates.classes i 0)) (Class (slice_index_or x.predicates.classes j 0))) is
+        (then (walks_are_chains (Class 0) (basics p) of_basics.edges are.basic_ends (one_of_basics p list of_roles of_basics are)
+        (class_node p i (slice_index_or p.classes i 0) (at p.classes i i_in)) (class_node p j (slice_index_or p.classes j 0) (at p.classes j j_in)))
+        (back (over.concepts (Class (slice_index_or p.classes i 0)) (Class (slice_index_or p.classes j 0)))))
+
+    pub role_chains : (i j : ℕ) → i < length p.properties → j < length p.properties → Walk (IsEdge of_roles) (0 + i * 2) (0 + j * 2)
+        ↔ RoleBelow axioms (named (slice_index_or h.predicates.properties i 0)) (named (slice_index_or h.predicates.properties j 0))
+    role_chains i j i_in j_in =
+        subst (λ x. Walk (IsEdge of_roles) (0 + i * 2) (0 + j * 2)
+        ↔ RoleBelow axioms (named (slice_index_or x.predicates.properties i 0)) (named (slice_index_or x.predicates.properties j 0))) is
+        (then (walks_are_chains (named 0) (roles p) of_roles.edges are.role_ends (one_of_roles p list of_roles of_basics are)
+        (plain_node p i (slice_index_or p.properties i 0) (at p.properties i i_in)) (plain_node p j (slice_index_or p.properties j 0) (at p.properties j j_in)))
+        (back (over.roles (named (slice_index_or p.properties i 0)) (named (slice_index_or p.properties j 0)))))
 
     -- roles_above and followers
     pub above : (role : Role) (from : ℕ) → StandsAt (roles p) from role → (slice found : List Role) → slice ≡ list

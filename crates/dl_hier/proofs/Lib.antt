@@ -11,3 +11,4 @@ pub mod SearchLemmas
 pub mod HierLemmas
 pub mod WayLemmas
 pub mod RowLemmas
+pub mod DecidedLemmas

@@ -43,13 +43,13 @@ module _ (axioms : List Axiom) where
       RoleStep.inverted (subst (Contains (role_inclusions axioms)) (sym (turned-turned w.0) ∙ ap turned other) w.1))
       (Contains-two w.0 (turned w.0) (r, s) w.2)
 
-  role-chains : {r s : Role} → RoleBelow axioms r s ↔ Chain (IsStep (role_steps (role_inclusions axioms))) r s
+  pub role-chains : {r s : Role} → RoleBelow axioms r s ↔ Chain (IsStep (role_steps (role_inclusions axioms))) r s
   role-chains {r} {s} = (
     λ c. Chain-mono (λ a b t. Chain-one (step-listed a b t)) c,
     λ c. Chain-mono (λ a b t. Chain-one (listed-step a b t)) c,
   )
 
-  abbrev all_steps : List (Basic × Basic)
+  abbrev pub all_steps : List (Basic × Basic)
   all_steps = concept_steps (role_steps (role_inclusions axioms)) (concept_inclusions axioms)
 
   some : Role × Role → Basic × Basic
@@ -71,7 +71,7 @@ module _ (axioms : List Axiom) where
       subst (λ p. ConceptStep axioms p.0 p.1) w.2 (ConceptStep.some_of (Chain-one (listed-step w.0.0 w.0.1 w.1))))
       (Contains-append_cases (concept_inclusions axioms) (map (λ p. (SomeOf p.0, SomeOf p.1)) (role_steps (role_inclusions axioms))) (b, c) h)
 
-  concept-chains : {b c : Basic} → ConceptBelow axioms b c ↔ Chain (IsStep all_steps) b c
+  pub concept-chains : {b c : Basic} → ConceptBelow axioms b c ↔ Chain (IsStep all_steps) b c
   concept-chains {b} {c} = (λ h. Chain-mono concept-listed h, λ h. Chain-mono (λ x y t. Chain-one (listed-concept x y t)) h)
 
 -- a hierarchy whose steps are those of the rows is one of all axioms with these rows

@@ -6,6 +6,8 @@ ghost use Rattle.dl_terms.specs.Below.{RoleBelow, ConceptBelow};
 ghost use Rattle.dl_terms.specs.declared.role.Role.{Role};
 ghost use Rattle.dl_terms.specs.declared.role.Basic.TheVariants.{Class, SomeOf};
 ghost use Rattle.dl_terms.specs.declared.axiom.Axiom.{Axiom};
+ghost use Rattle.dl_reach.specs.Chain.{Chain};
+ghost use Rattle.dl_reach.specs.Digraph.{IsEdge};
 ghost use Rattle.dl_reach.specs.Rows.{row_has};
 ghost use Rattle.dl_hier.specs.Predicates.{roles, basics};
 ghost use Rattle.dl_hier.specs.Rows.{HasInclusions, HasNames, AreFew, ArePredicatesOf};
@@ -17,6 +19,7 @@ use crate::below::{Below, names_leading, roles_reached};
 use crate::edges::{basic_edges, role_edges, ways};
 use crate::nodes::Nodes;
 use crate::ways::Ways;
+use dl_reach::Closure;
 use dl_terms::{Basic, List, NoMemory, Normal, Role, Signature};
 use std::alloc::{AllocError, Global};
 use std::marker::Model;
@@ -96,6 +99,30 @@ impl Hier {
             },
             None => are_same_basics(sub, sup),
         }
+    }
+
+    /// Which classes of the signature are below which, as the closure of a graph whose nodes are their places: a chain
+    /// leads from what is below to what is above. Fails only for want of memory.
+    pub fn class_order(&self, alloc: Global) -> Result<Closure, NoMemory>
+        ensures count { IfOk result (λ order. order.nodes ≡ length self.now.predicates.classes) }
+        ensures below { IfOk result (λ order. (axioms : Items Axiom) → IsHierarchyOf self.now axioms
+            → (i j : ℕ) → i < length self.now.predicates.classes → j < length self.now.predicates.classes
+            → Chain (IsEdge order) i j ↔ ConceptBelow axioms (Class (slice_index_or self.now.predicates.classes i 0))
+            (Class (slice_index_or self.now.predicates.classes j 0))) }
+    {
+        self.basic_ways.among(alloc, 0, 1, self.nodes.class_count())
+    }
+
+    /// Which object properties of the signature are below which, in the same way. Fails only for want of memory.
+    pub fn role_order(&self, alloc: Global) -> Result<Closure, NoMemory>
+        ensures count { IfOk result (λ order. order.nodes ≡ length self.now.predicates.properties) }
+        ensures below { IfOk result (λ order. (axioms : Items Axiom) → IsHierarchyOf self.now axioms
+            → (i j : ℕ) → i < length self.now.predicates.properties
+            → j < length self.now.predicates.properties → Chain (IsEdge order) i j ↔ RoleBelow axioms (named (slice_index_or self.now.predicates.properties i 0))
+            (named (slice_index_or self.now.predicates.properties j 0))) }
+    {
+        let count = self.nodes.properties().len() as u32;
+        self.role_ways.among(alloc, 0, 2, count)
     }
 
     /// The roles of the hierarchy, ascending, each once: every object property of the signature and every auxiliary

@@ -1,5 +1,5 @@
 // Graphs kept as the closure of their edges turned round, so that one matrix answers what is below and above.
-ghost use Rattle.std.specs.Prelude.{◌≡◌, ◌+◌, ◌*◌, ◌/◌, ◌%◌, ◌<◌, ◌≤◌, ◌↔◌, ℕ, true, length, map, Contains, IfOk, IsTrue};
+ghost use Rattle.std.specs.Prelude.{◌≡◌, ◌+◌, ◌*◌, ◌/◌, ◌%◌, ◌<◌, ◌≤◌, ◌↔◌, ℕ, true, length, map, get_or, Contains, IfOk, IsTrue};
 ghost use Rattle.dl_reach.specs.Chain.{Chain};
 ghost use Rattle.dl_reach.specs.Digraph.{IsEdge, EndsBelow, max_nodes};
 ghost use Rattle.dl_reach.specs.Rows.{row_has};
@@ -80,6 +80,50 @@ impl Ways {
             ↔ Chain (IsEdge self.now.graph) (node_at self.now.first self.now.rest i) to }
     {
         self.closure.row(place(self.first, self.rest, to))
+    }
+}
+
+impl Ways {
+    /// The closure between some of the nodes alone: the first node is `first`, and each later one is `every` nodes
+    /// further. Fails only for want of memory.
+    pub(crate) fn among(
+        &self,
+        alloc: Global,
+        first: u32,
+        every: u32,
+        count: u32,
+    ) -> Result<Closure, NoMemory>
+        requires nodes { (k : ℕ) → k < count → first + k * every < self.now.graph.nodes }
+        requires few { count ≤ max_nodes }
+        ensures count { IfOk result (λ order. order.nodes ≡ count) }
+        ensures chains { IfOk result (λ order. (i j : ℕ) → i < count → j < count → Chain (IsEdge order) i j
+            ↔ Chain (IsEdge self.now.graph) (first + i * every) (first + j * every)) }
+    {
+        let places = self.places(alloc, first, every, count)?;
+        match self.closure.turned(alloc, &places) {
+            Ok(order) => Ok(order),
+            Err(_) => Err(NoMemory),
+        }
+    }
+
+    /// Where these nodes stand in the kept order.
+    fn places(
+        &self,
+        alloc: Global,
+        first: u32,
+        every: u32,
+        count: u32,
+    ) -> Result<Vec<u32>, AllocError>
+        requires nodes { (k : ℕ) → k < count → first + k * every < self.now.graph.nodes }
+        ensures count { IfOk result (λ places. length places.items ≡ count) }
+        ensures each { IfOk result (λ places. (k : ℕ) → k < count → get_or places.items k 0
+            ≡ place self.now.first self.now.rest (first + k * every)) }
+    {
+        let mut places = Vec::with_capacity(alloc, count as usize)?;
+        for k in 0..count {
+            places.push(place(self.first, self.rest, first + k * every))?;
+        }
+        Ok(places)
     }
 }
 

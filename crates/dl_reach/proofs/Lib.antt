@@ -1,3 +1,4 @@
+pub mod BitPairs
 pub mod Chains
 pub mod Closing
 pub mod Listing

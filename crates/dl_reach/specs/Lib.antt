@@ -3,3 +3,4 @@ pub mod Digraph
 pub mod Matrix
 pub mod Rows
 pub mod Search
+pub mod Closures

@@ -1,4 +1,4 @@
-ghost use Rattle.std.specs.Prelude.{◌≡◌, ℕ, ◌+◌, ◌*◌, ◌<◌, ◌≤◌, ◌↔◌, ◌⊎◌, true, length, IfOk, IsTrue, Contains};
+ghost use Rattle.std.specs.Prelude.{◌≡◌, ℕ, ◌+◌, ◌*◌, ◌<◌, ◌≤◌, ◌↔◌, ◌⊎◌, List, All, true, length, get_or, IfOk, IsTrue, Contains};
 ghost use Rattle.std.specs.List.Sorted.{IsNonDecreasingBy};
 ghost use Rattle.dl_reach.specs.Chain.{Chain};
 ghost use Rattle.dl_reach.specs.Digraph.{Digraph, max_nodes, IsEdge, Leads, EndsBelow, AreConnected};
@@ -6,29 +6,47 @@ ghost use Rattle.dl_reach.specs.Matrix.{HasBit, HasRow, HasChains};
 ghost use Rattle.dl_reach.specs.Rows.{row_has};
 
 use crate::graph::Graph;
-use crate::matrix::{close, follow_all, has_bit, set_bits, set_diagonal};
+use crate::matrix::{close, follow_all, has_bit, set_bit, set_bits, set_diagonal};
+use crate::memory::NoMemory;
 use crate::order::order;
 use std::alloc::{AllocError, Global};
 use std::marker::Model;
+
+/// Where the edges stand whose chains a closure tells.
+#[derive(Drop)]
+enum Edges {
+    /// In the graph that was closed.
+    Listed(Graph),
+
+    /// Nowhere else: between so many nodes there is an edge for each bit that is set.
+    Bits(u32),
+}
 
 /// Which nodes of a graph chains of edges lead to, from each node: a bit for each two nodes, beside the graph
 /// that it stands for.
 #[derive(Drop)]
 pub struct Closure {
-    graph: Graph,
+    edges: Edges,
     width: usize,
     words: Vec<u64>,
 }
 
 impl Model for Closure {
+    ghost use Rattle.std.specs.Prelude.{◌≡◌, ◌*◌, ◌≤◌, length};
+    ghost use Rattle.dl_reach.specs.Digraph.{Digraph, max_nodes};
+    ghost use Rattle.dl_reach.specs.Matrix.{HasChains};
+    ghost use Rattle.dl_reach.specs.Closures.{graph_of};
+
     ghost Value = { Digraph };
 
-    ghost view = { λ c. c.graph };
+    ghost view = { λ c. graph_of c.edges c.width c.words.items };
 
     ghost invariant = { λ c. record {
-      wide : c.graph.nodes ≤ 64 * c.width;
-      len : length c.words.items ≡ c.graph.nodes * c.width;
-      chains : HasChains c.words.items c.width c.graph.nodes c.graph.edges;
+      few : (graph_of c.edges c.width c.words.items).nodes ≤ max_nodes;
+      wide : (graph_of c.edges c.width c.words.items).nodes ≤ 64 * c.width;
+      len : length c.words.items ≡ (graph_of c.edges c.width c.words.items).nodes * c.width;
+      chains : HasChains c.words.items c.width (graph_of c.edges c.width c.words.items).nodes
+          (graph_of c.edges c.width c.words.items).edges;
     } };
 }
 
@@ -40,7 +58,28 @@ impl Closure {
         let width = (graph.nodes() as usize).div_ceil(64);
         let words = chain_bits(alloc, graph.nodes(), width, graph.edges())?;
         Ok(Closure {
-            graph,
+            edges: Edges::Listed(graph),
+            width,
+            words,
+        })
+    }
+
+    /// The closure between some of the nodes alone, turned round: a chain leads from the first to the second of two
+    /// places among them where one leads, here, from the node at the second place to that at the first. Fails only for
+    /// want of memory.
+    pub fn turned(&self, alloc: Global, nodes: &[u32]) -> Result<Closure, NoMemory>
+        requires few { length nodes.now ≤ max_nodes }
+        requires within { All (λ node. node < self.now.nodes) nodes.now }
+        ensures count { IfOk result (λ turned. turned.nodes ≡ length nodes.now) }
+        ensures chains { IfOk result (λ turned. (i j : ℕ) → i < length nodes.now → j < length nodes.now
+            → Chain (IsEdge turned) i j
+            ↔ Chain (IsEdge self.now) (get_or nodes.now j 0) (get_or nodes.now i 0)) }
+    {
+        let width = nodes.len().div_ceil(64);
+        let mut words = vec![in alloc; 0u64; nodes.len() * width]?;
+        turn_rows(&mut words, width, self, nodes);
+        Ok(Closure {
+            edges: Edges::Bits(nodes.len() as u32),
             width,
             words,
         })
@@ -79,7 +118,41 @@ impl Closure {
         ensures count { result ≡ self.now.nodes }
         ensures few { result ≤ max_nodes }
     {
-        self.graph.nodes()
+        match &self.edges {
+            Edges::Listed(graph) => graph.nodes(),
+            Edges::Bits(nodes) => *nodes,
+        }
+    }
+}
+
+/// Sets the bits of the closure that is turned round: its columns are the rows of the nodes.
+fn turn_rows(words: &mut [u64], width: usize, closure: &Closure, nodes: &[u32])
+    requires empty { (a b : ℕ) → HasBit words.old width a b → ⊥ }
+    requires rows { length words.old ≡ length nodes.now * width }
+    requires columns { length nodes.now ≤ 64 * width }
+    requires within { All (λ node. node < closure.now.nodes) nodes.now }
+    ensures { (a b : ℕ) → HasBit words.new width a b ↔ ((b < length nodes.now) × (a < length nodes.now)
+        × Chain (IsEdge closure.now) (get_or nodes.now b 0) (get_or nodes.now a 0)) }
+{
+    for column in 0..nodes.len() {
+        turn_row(words, width, closure, nodes, column);
+    }
+}
+
+/// Sets the bits of one column of it, from the row of the node at that place.
+fn turn_row(words: &mut [u64], width: usize, closure: &Closure, nodes: &[u32], column: usize)
+    requires rows { length nodes.now * width ≤ length words.old }
+    requires columns { length nodes.now ≤ 64 * width }
+    requires column { column < length nodes.now }
+    requires within { All (λ node. node < closure.now.nodes) nodes.now }
+    ensures { (a b : ℕ) → HasBit words.new width a b ↔ (HasBit words.old width a b ⊎ ((b ≡ column)
+        × (a < length nodes.now)
+        × Chain (IsEdge closure.now) (get_or nodes.now column 0) (get_or nodes.now a 0))) }
+{
+    for row in 0..nodes.len() {
+        if closure.has(nodes[column], nodes[row]) {
+            set_bit(words, width, row, column);
+        }
     }
 }
 
