@@ -1,5 +1,5 @@
 -- What the rows of the graphs of a hierarchy say.
-use Rattle.std.proofs.Common.{◌≡◌, ◌⊎◌, ℕ, ◌+◌, ◌*◌, ◌/◌, ◌%◌, ◌-◌, ◌<◌, ◌≤◌, ◌↔◌, Bool, true, false, List, [], length, get_or, nat_eq, Contains, sym, ap, subst, ◌∙◌, inl, inr, arith}
+use Rattle.std.proofs.Common.{◌≡◌, ◌⊎◌, ℕ, ◌+◌, ◌*◌, ◌/◌, ◌%◌, ◌<◌, ◌↔◌, Bool, true, false, List, [], length, get_or, nat_eq, Contains, sym, ap, subst, ◌∙◌, inl, inr, arith}
 use Rattle.std.proofs.lemmas.Nat.Bits.{bit_at-zero}
 use Rattle.std.proofs.lemmas.List.Elements.{Contains-get_or}
 use Rattle.dl_terms.specs.Order.{flag}
@@ -12,7 +12,7 @@ use Rattle.dl_terms.specs.declared.role.Basic.{Basic}
 use Rattle.dl_terms.specs.declared.role.Basic.TheVariants.{Class, SomeOf}
 use Rattle.dl_terms.specs.declared.axiom.Axiom.{Axiom}
 use Rattle.dl_reach.specs.Chain.{Chain as Walk}
-use Rattle.dl_reach.specs.Digraph.{Digraph, IsEdge}
+use Rattle.dl_reach.specs.Digraph.{IsEdge}
 use Rattle.dl_reach.specs.Rows.{row_has}
 use Rattle.dl_hier.specs.Predicates.{Predicates, bases, roles, basics}
 use Rattle.dl_hier.specs.Hierarchy.{Hierarchy, IsHierarchyOf}
@@ -23,7 +23,7 @@ use Rattle.dl_hier.proofs.MemberLemmas.{StandsAt-default, StandsAt-get}
 use Rattle.dl_hier.proofs.PredicateLemmas.{way, role-at, length-roles, length-bases, length-basics, one_role, one_basic, basic-at_role, inverse-known, known-some}
 use Rattle.dl_hier.proofs.ChainLemmas.{walks_are_chains, to_unknown}
 use Rattle.dl_hier.proofs.QueryLemmas.{then, back}
-use Rattle.dl_hier.proofs.WayLemmas.{other-below, node_at-rest, node_at-first}
+use Rattle.dl_hier.proofs.WayLemmas.{node_at-rest, node_at-first}
 
 module _ (p : Predicates) where
   -- the inverse of a role stands beside it

@@ -1,9 +1,8 @@
 -- The graphs of a hierarchy: of its roles, and of its basic concepts. For private functions.
-use Rattle.std.specs.Prelude.{◌≡◌, ℕ, ◌+◌, ◌++◌, ◌↔◌, List, Contains, map, length, slice_index_or}
-use Rattle.dl_terms.specs.Roles.{named, inverse_of}
+use Rattle.std.specs.Prelude.{◌≡◌, ℕ, ◌+◌, List, map, length}
+use Rattle.dl_terms.specs.Roles.{named}
 use Rattle.dl_terms.specs.declared.role.Role.{Role}
-use Rattle.dl_terms.specs.declared.role.Basic.{Basic}
-use Rattle.dl_terms.specs.declared.role.Basic.TheVariants.{Class, SomeOf}
+use Rattle.dl_terms.specs.declared.role.Basic.TheVariants.{Class}
 use Rattle.dl_reach.specs.Digraph.{Digraph, EndsBelow}
 use Rattle.dl_hier.specs.Predicates.{Predicates, AreInOrder, roles, basics}
 use Rattle.dl_hier.specs.Hierarchy.{Hierarchy}

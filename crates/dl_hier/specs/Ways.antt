@@ -1,6 +1,6 @@
 -- A graph that is kept with its edges turned round, and with its nodes in another order: first the last `rest` nodes,
 -- each two that follow one another in each other's place, and then the first ones. For private functions.
-use Rattle.std.specs.Prelude.{◌≡◌, ℕ, ◌+◌, ◌*◌, ◌/◌, ◌-◌, ◌↔◌, if◌then◌else◌, nat_lt, List, Contains, map}
+use Rattle.std.specs.Prelude.{◌≡◌, ℕ, ◌+◌, ◌*◌, ◌/◌, ◌-◌, ◌↔◌, if◌then◌else◌, nat_lt, List, Contains}
 use Rattle.dl_reach.specs.Digraph.{Digraph}
 
 -- the graph, and how many of its nodes stand first and last in it

@@ -1,4 +1,4 @@
-use Rattle.std.proofs.Common.{◌≡◌, ℕ, ◌↔◌, IsTrue, sym, ap, subst, arith}
+use Rattle.std.proofs.Common.{◌≡◌, ◌↔◌, IsTrue, sym, ap, subst, arith}
 use Rattle.dl_reach.specs.Chain.{Chain}
 use Rattle.dl_reach.specs.Digraph.{IsEdge, Leads}
 use Rattle.dl_hier.specs.Ways.{place}
