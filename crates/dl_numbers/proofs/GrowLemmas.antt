@@ -1,16 +1,16 @@
 -- The loop that puts places in order: what is in order so far, and what the classes that wait give behind it, is the
 -- whole order.
-use Rattle.std.proofs.Common.{◌≡◌, ℕ, zero, suc, ◌+◌, ◌-◌, ◌<◌, ◌≤◌, ◌↔◌, ◌⊎◌, inl, inr, Bool, true, false, eqb, List, [], ◌∷◌, ◌++◌, reverse, length, length-append, get_or, Option, Some, None, MatchOption, refl, sym, ap, ap₂, subst, ◌∙◌, append_assoc, append-nil, true≢false, arith}
+use Rattle.std.proofs.Common.{◌≡◌, ℕ, zero, suc, ◌<◌, ◌≤◌, ◌⊎◌, inl, inr, Bool, true, false, eqb, List, [], ◌∷◌, ◌++◌, reverse, length, length-append, get_or, Option, Some, None, MatchOption, refl, sym, ap, ap₂, subst, ◌∙◌, append_assoc, append-nil, true≢false, arith}
 use Rattle.std.specs.List.{Contains}
 use Rattle.std.specs.Option.{option_eq}
 use Rattle.std.specs.List.Sorted.{IsStrictlyIncreasing}
 use Rattle.std.proofs.lemmas.Bool.{eq-eqb, eqb-true}
 use Rattle.std.proofs.lemmas.List.{reverse-append}
-use Rattle.std.proofs.lemmas.List.Elements.{Contains-append_left, Contains-append_right, Contains-append_cases}
-use Rattle.dl_terms.proofs.MemberLemmas.{Contains-nil, Contains-cons, Contains-first, Contains-later, Contains-one, Contains-middle}
+use Rattle.std.proofs.lemmas.List.Elements.{Contains-append_left, Contains-append_cases}
+use Rattle.dl_terms.proofs.MemberLemmas.{Contains-nil, Contains-first, Contains-later, Contains-one, Contains-middle}
 use Rattle.dl_reach.specs.Digraph.{Digraph, IsEdge, AreConnected}
 use Rattle.dl_reach.proofs.Chains.{Chain-refl, Chain-trans}
-use Rattle.dl_numbers.specs.DepthFirst.{AreExactly, AreEquivalent, IsLeast, IsParent, IsRoot, IsChild, AreDepthFirst, IsDepthFirst, none, tree}
+use Rattle.dl_numbers.specs.DepthFirst.{AreExactly, AreEquivalent, IsParent, IsRoot, IsChild, AreDepthFirst, IsDepthFirst, none, tree}
 use Rattle.dl_numbers.specs.Places.{places, Reaches, AreLeaders, AreParents}
 use Rattle.dl_numbers.specs.Runs.{AreNumbered}
 use Rattle.dl_numbers.proofs.TestLemmas.{Tells}
@@ -143,10 +143,11 @@ module _ (order : Digraph) where
   some_order : (xs : List ℕ) × IsDepthFirst (places order.nodes) (Reaches order) xs
   some_order = depth_first.numbers_exist (places order.nodes) (places_rise order.nodes) (Reaches order) (λ a c. Chain-refl (IsEdge order) a) (Chain-trans (IsEdge order)) test tells
 
-  order_count : (xs : List ℕ) → IsDepthFirst (places order.nodes) (Reaches order) xs → length xs ≡ order.nodes
-  order_count xs is =
-      let all = each_numbered (places order.nodes) (places_rise order.nodes) (Reaches order) (λ a c. Chain-refl (IsEdge order) a) (Chain-trans (IsEdge order)) test tells xs is in
-      all.count ∙ length_places order.nodes
+  pub places_numbered : (xs : List ℕ) → IsDepthFirst (places order.nodes) (Reaches order) xs → AreNumbered (places order.nodes) xs
+  places_numbered = each_numbered (places order.nodes) (places_rise order.nodes) (Reaches order) (λ a c. Chain-refl (IsEdge order) a) (Chain-trans (IsEdge order)) test tells
+
+  pub order_count : (xs : List ℕ) → IsDepthFirst (places order.nodes) (Reaches order) xs → length xs ≡ order.nodes
+  order_count xs is = (places_numbered xs is).count ∙ length_places order.nodes
 
   joined : (cs ds xs ys : List ℕ) → AreDepthFirst (places order.nodes) (Reaches order) cs xs → AreDepthFirst (places order.nodes) (Reaches order) ds ys
       → AreDepthFirst (places order.nodes) (Reaches order) (cs ++ ds) (xs ++ ys)

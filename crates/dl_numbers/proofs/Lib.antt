@@ -10,3 +10,5 @@ pub mod PlaceLemmas
 pub mod LoopLemmas
 pub mod GrowLemmas
 pub mod NameLemmas
+pub mod BesideLemmas
+pub mod RuleLemmas

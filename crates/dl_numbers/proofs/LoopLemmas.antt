@@ -1,13 +1,11 @@
 -- The loops over places: tables that grow by an entry for each place, and lists that grow from the last place down.
-use Rattle.std.proofs.Common.{◌≡◌, ℕ, zero, suc, ◌+◌, ◌<◌, ◌≤◌, ◌↔◌, ◌⊎◌, inl, inr, List, [], ◌∷◌, ◌++◌, reverse, length, length-append, get_or, Option, None, Some, MatchOption, refl, sym, ap, subst, ◌∙◌, arith}
+use Rattle.std.proofs.Common.{◌≡◌, ℕ, zero, suc, ◌+◌, ◌<◌, ◌≤◌, ◌↔◌, inl, inr, List, [], ◌∷◌, ◌++◌, length, length-append, get_or, refl, sym, subst, arith}
 use Rattle.std.specs.List.{Contains}
 use Rattle.std.specs.List.Sorted.{IsStrictlyIncreasing}
 use Rattle.std.proofs.lemmas.Bool.{cases_lt}
-use Rattle.std.proofs.lemmas.List.{get_or_default}
-use Rattle.dl_terms.proofs.MemberLemmas.{Contains-nil, Contains-cons, Contains-first, Contains-later, Contains-one}
-use Rattle.dl_reach.specs.Digraph.{Digraph, AreConnected}
-use Rattle.dl_numbers.specs.DepthFirst.{AreExactly, IsLeast, IsParent}
-use Rattle.dl_numbers.specs.Places.{places, Reaches, AreLeaders, AreParents}
+use Rattle.dl_terms.proofs.MemberLemmas.{Contains-nil, Contains-cons, Contains-first, Contains-later}
+use Rattle.dl_numbers.specs.DepthFirst.{AreExactly}
+use Rattle.dl_numbers.specs.Places.{places}
 use Rattle.dl_numbers.proofs.PlaceLemmas.{in_places}
 
 -- ---- an entry for each place

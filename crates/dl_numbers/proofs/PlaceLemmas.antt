@@ -1,18 +1,17 @@
 -- Places of names: lists that grow place by place, classes by their least places, and the parent that a search finds.
-use Rattle.std.proofs.Common.{Bool, true, false, not, eqb, IsTrue, true≢false, ◌≡◌, ℕ, zero, suc, ◌+◌, ◌<◌, ◌≤◌, ◌↔◌, ◌⊎◌, inl, inr, List, [], ◌∷◌, ◌++◌, reverse, length, get_or, Option, Some, None, MatchOption, refl, sym, ap, subst, ◌∙◌, le_antisymm, append_assoc, arith}
-use Rattle.std.specs.List.{All, Contains}
+use Rattle.std.proofs.Common.{Bool, true, false, not, eqb, IsTrue, true≢false, ◌≡◌, ℕ, zero, suc, ◌+◌, ◌<◌, ◌≤◌, ◌↔◌, ◌⊎◌, inl, inr, List, [], ◌∷◌, ◌++◌, length, get_or, Option, Some, None, MatchOption, refl, sym, ap, subst, ◌∙◌, le_antisymm, arith}
+use Rattle.std.specs.List.{Contains}
 use Rattle.std.specs.List.Sorted.{IsStrictlyIncreasing}
 use Rattle.std.proofs.lemmas.Bool.{cases_lt, eq-eqb, eqb-true}
 use Rattle.std.proofs.lemmas.List.{get_or_default}
 use Rattle.std.proofs.lemmas.List.Elements.{Contains-append_left, Contains-append_right, Contains-append_cases}
 use Rattle.std.proofs.lemmas.List.Kept.{AllPairs-from_increasing}
-use Rattle.dl_terms.proofs.MemberLemmas.{Contains-nil, Contains-cons, Contains-first, Contains-later, Contains-one}
-use Rattle.dl_reach.specs.Chain.{Chain}
+use Rattle.dl_terms.proofs.MemberLemmas.{Contains-nil, Contains-first, Contains-later, Contains-one}
 use Rattle.dl_reach.specs.Digraph.{Digraph, IsEdge, AreConnected}
 use Rattle.dl_reach.proofs.Chains.{Chain-refl, Chain-trans}
-use Rattle.dl_numbers.specs.DepthFirst.{AreExactly, AreEquivalent, IsLeast, IsLeastAbove, IsParent, IsStrictlyAbove}
-use Rattle.dl_numbers.specs.Places.{places, Reaches, IsAbove, IsLowest, IsFirstLowest, AreLeaders, AreParents}
-use Rattle.dl_numbers.proofs.OrderLemmas.{IsDecided, chain_decided}
+use Rattle.dl_numbers.specs.DepthFirst.{AreExactly, IsLeast, IsLeastAbove, IsParent}
+use Rattle.dl_numbers.specs.Places.{places, Reaches, IsAbove, IsLowest, IsFirstLowest, AreLeaders}
+use Rattle.dl_numbers.proofs.OrderLemmas.{chain_decided}
 
 pub in_places : (n k : ℕ) → Contains (places n) k ↔ (k < n)
 in_places zero k = (λ c. absurd (Contains-nil k c), λ h. absurd (omega (arith, h)))

@@ -56,7 +56,7 @@ number_one xs once name m n p q =
     let g = q.from_one in
     omega (arith, e, f, g)
 
-number_of : (xs : List ℕ) (name : ℕ) → Contains xs name → (number : ℕ) × HasNumber xs name number
+pub number_of : (xs : List ℕ) (name : ℕ) → Contains xs name → (number : ℕ) × HasNumber xs name number
 number_of xs name c = (
   c.0 + 1,
   record {

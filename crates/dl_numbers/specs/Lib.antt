@@ -3,3 +3,4 @@ pub mod DepthFirst
 pub mod Numbers
 pub mod Runs
 pub mod Places
+pub mod Beside

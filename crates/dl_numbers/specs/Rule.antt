@@ -1,7 +1,7 @@
 -- The rule by which names get their numbers. It is this project's own.
-use Rattle.std.specs.Prelude.{◌≡◌, ℕ, List}
+use Rattle.std.specs.Prelude.{ℕ, List}
+use Rattle.dl_numbers.specs.DepthFirst.{IsDepthFirst}
 
--- names, which ascend, in number order, by which of them are below which: in name order for now, where the
--- depth-first order `IsDepthFirst` is to come
+-- names in number order, by which of them are below which: in depth-first order, from those above to those below
 abbrev pub IsByRule : List ℕ → (ℕ → ℕ → Type 0) → List ℕ → Type 0
-IsByRule names Below numbered = numbered ≡ names
+IsByRule names Below = IsDepthFirst names Below

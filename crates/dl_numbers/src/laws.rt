@@ -1,6 +1,7 @@
 //! Laws of depth-first numbers, for every order of names: they exist, they are one list, each name has one of them, and
-//! in a forest the names below one have those of one interval.
-ghost use Rattle.std.specs.Prelude.{◌≡◌, ℕ, List, Contains};
+//! in a forest the names below one have those of one interval. They go by the names and how they relate, and by nothing
+//! else.
+ghost use Rattle.std.specs.Prelude.{◌≡◌, ◌↔◌, ℕ, List, Contains};
 ghost use Rattle.std.specs.List.Sorted.{IsStrictlyIncreasing};
 ghost use Rattle.dl_numbers.specs.Numbers.{IsBelow};
 ghost use Rattle.dl_numbers.specs.DepthFirst.{IsDepthFirst};
@@ -34,4 +35,21 @@ pub fn what_is_below_is_one_interval(names: &[u32], order: &Closure)
     ensures { (numbered : List ℕ) → IsDepthFirst names.now (IsBelow names.now order.now) numbered
         → (name : ℕ) → Contains names.now name
         → HasOneInterval numbered (λ a. IsBelow names.now order.now a name) }
+{}
+
+/// The numbers go by the names and how they relate: graphs that tell the same order give the same numbers, and so do
+/// lists of the same names.
+pub fn numbers_go_by_the_names_alone(
+    names: &[u32],
+    others: &[u32],
+    order: &Closure,
+    other: &Closure,
+)
+    ensures agree { ((a b : ℕ) → Contains names.now a → Contains names.now b
+        → IsBelow names.now order.now a b ↔ IsBelow names.now other.now a b)
+        → (numbered : List ℕ) → IsDepthFirst names.now (IsBelow names.now order.now) numbered
+        → IsDepthFirst names.now (IsBelow names.now other.now) numbered }
+    ensures members { ((n : ℕ) → Contains names.now n ↔ Contains others.now n)
+        → (numbered : List ℕ) → IsDepthFirst names.now (IsBelow names.now order.now) numbered
+        → IsDepthFirst others.now (IsBelow names.now order.now) numbered }
 {}

@@ -1,10 +1,12 @@
 // Names and their numbers.
-ghost use Rattle.std.specs.Prelude.{◌≡◌, ◌≤◌, ℕ, length, Contains, IfOk, IfSome, MatchOption};
+ghost use Rattle.std.specs.Prelude.{◌≡◌, ◌<◌, ◌≤◌, ◌^◌, ℕ, length, map, get_or, All, Contains, IfOk, IfSome, MatchOption};
 ghost use Rattle.std.specs.List.Sorted.{IsStrictlyIncreasing};
 ghost use Rattle.dl_reach.specs.Digraph.{max_nodes};
 ghost use Rattle.dl_numbers.specs.Numbers.{HasNumber, IsBelow};
 ghost use Rattle.dl_numbers.specs.Rule.{IsByRule};
+ghost use Rattle.dl_numbers.specs.Beside.{AreAtPlaces};
 
+use crate::order::depth_first;
 use dl_reach::Closure;
 use dl_terms::NoMemory;
 use std::alloc::Global;
@@ -13,20 +15,22 @@ use std::marker::Model;
 /// Names with numbers, from 1: each name once. Contracts see it as the list of the names in number order.
 #[derive(Drop)]
 pub struct Numbering {
-    names: Vec<u32>,
+    in_number_order: Vec<u32>,
+    // the same names ascending, and beside each its number
+    ascending: Vec<u32>,
+    numbers: Vec<u32>,
 }
 
 impl Model for Numbering {
-    ghost use Rattle.std.specs.Prelude.{ℕ, List, ◌≤◌, length};
-    ghost use Rattle.std.specs.List.Sorted.{IsStrictlyIncreasing};
-    ghost use Rattle.dl_reach.specs.Digraph.{max_nodes};
+    ghost use Rattle.std.specs.Prelude.{ℕ, List};
+    ghost use Rattle.dl_numbers.specs.Beside.{AreBeside};
 
     ghost Value = { List ℕ };
 
-    ghost view = { λ numbering. numbering.names.items };
+    ghost view = { λ numbering. numbering.in_number_order.items };
 
     ghost invariant = { λ numbering.
-        IsStrictlyIncreasing numbering.names.items × (length numbering.names.items ≤ max_nodes) };
+        AreBeside numbering.ascending.items numbering.numbers.items numbering.in_number_order.items };
 }
 
 impl Numbering {
@@ -37,9 +41,16 @@ impl Numbering {
         requires as_many { length names.now ≡ order.now.nodes }
         ensures { IfOk result (λ numbered. IsByRule names.now (IsBelow names.now order.now) numbered) }
     {
-        let mut numbered = Vec::with_capacity(alloc, order.nodes() as usize)?;
-        numbered.extend_from_slice(names)?;
-        Ok(Numbering { names: numbered })
+        let mut ascending = Vec::with_capacity(alloc, order.nodes() as usize)?;
+        ascending.extend_from_slice(names)?;
+        let places = depth_first(alloc, order)?;
+        let in_number_order = names_at(alloc, names, &places)?;
+        let numbers = numbers_at(alloc, &places)?;
+        Ok(Numbering {
+            in_number_order,
+            ascending,
+            numbers,
+        })
     }
 
     /// The number of a name, or `None` where it isn't among the names. It takes no memory.
@@ -48,8 +59,8 @@ impl Numbering {
         ensures only { IfSome result (λ n. (m : ℕ) → HasNumber self.now name m → m ≡ n) }
         ensures few { IfSome result (λ n. n ≤ max_nodes) }
     {
-        match self.names.binary_search(&name) {
-            Ok(place) => Some(place as u32 + 1),
+        match self.ascending.binary_search(&name) {
+            Ok(place) => Some(self.numbers[place]),
             Err(_) => None,
         }
     }
@@ -59,7 +70,7 @@ impl Numbering {
         ensures count { result ≡ length self.now }
         ensures few { result ≤ max_nodes }
     {
-        self.names.len() as u32
+        self.in_number_order.len() as u32
     }
 
     /// The name with a number, which is from 1 to `len`. It takes no memory.
@@ -68,6 +79,32 @@ impl Numbering {
         requires within { number ≤ length self.now }
         ensures { HasNumber self.now result number }
     {
-        self.names[number as usize - 1]
+        self.in_number_order[number as usize - 1]
     }
+}
+
+/// The names that stand at some places, one after the other. It fails only for want of memory.
+fn names_at(alloc: Global, names: &[u32], places: &[u32]) -> Result<Vec<u32>, NoMemory>
+    requires { All (λ place. place < length names.now) places.now }
+    ensures { IfOk result (λ found.
+        found.items ≡ map (λ place. get_or names.now place 0) places.now) }
+{
+    let mut found = Vec::with_capacity(alloc, places.len())?;
+    for place in places {
+        found.push(names[*place as usize])?;
+    }
+    Ok(found)
+}
+
+/// For each of some places, in number order, its number: it stands at that place. It fails only for want of memory.
+fn numbers_at(alloc: Global, places: &[u32]) -> Result<Vec<u32>, NoMemory>
+    requires within { All (λ place. place < length places.now) places.now }
+    requires few { length places.now < 2 ^ 32 }
+    ensures { IfOk result (λ numbers. AreAtPlaces places.now numbers.items) }
+{
+    let mut numbers = vec![in alloc; 0u32; places.len()]?;
+    for i in 0..places.len() as u32 {
+        numbers[places[i as usize] as usize] = i + 1;
+    }
+    Ok(numbers)
 }

@@ -1,8 +1,8 @@
-use Rattle.std.proofs.Common.{◌≡◌, ℕ, ◌<◌, Option, Some, None, List, length, get_or, MatchOption, sym, ap, subst, ◌∙◌, arith}
+use Rattle.std.proofs.Common.{get_or, sym, subst}
 use Rattle.std.specs.List.{Contains}
 use Rattle.std.proofs.lemmas.List.Elements.{Contains-get_or}
-use Rattle.dl_numbers.specs.DepthFirst.{AreExactly, IsLeast, IsParent}
-use Rattle.dl_numbers.specs.Places.{places, Reaches, IsAbove}
+use Rattle.dl_numbers.specs.DepthFirst.{AreExactly}
+use Rattle.dl_numbers.specs.Places.{places, IsAbove}
 use Rattle.dl_numbers.proofs.PlaceLemmas.{in_places, least_is, parent_told}
 use Rattle.dl_numbers.proofs.classes.parent_if_least.Goals as goal
 

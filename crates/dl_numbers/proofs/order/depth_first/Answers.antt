@@ -1,4 +1,4 @@
-use Rattle.std.proofs.Common.{◌≡◌, ◌<◌, ◌++◌, length, reverse, sym, ap, subst, ◌∙◌, arith}
+use Rattle.std.proofs.Common.{◌++◌, length, reverse, sym, ap, subst, ◌∙◌, arith}
 use Rattle.dl_numbers.specs.Places.{AreLeaders, AreParents}
 use Rattle.dl_numbers.proofs.GrowLemmas.{IsGrown, grown_start, grown_end, stepped, nothing}
 use Rattle.dl_numbers.proofs.order.depth_first.Goals as goal

@@ -1,5 +1,4 @@
-use Rattle.std.proofs.Common.{◌≡◌, ℕ, ◌+◌, ◌-◌, ◌++◌, ◌∷◌, [], reverse, length, get_or, None, sym, ap, subst, ◌∙◌, append_assoc, arith}
-use Rattle.dl_numbers.specs.DepthFirst.{AreExactly}
+use Rattle.std.proofs.Common.{◌≡◌, ◌+◌, ◌-◌, ◌++◌, ◌∷◌, [], reverse, length, get_or, None, sym, ap, subst, ◌∙◌, append_assoc, arith}
 use Rattle.dl_numbers.proofs.LoopLemmas.{AreFrom, from_more, from_pass, from_all}
 use Rattle.dl_numbers.proofs.GrowLemmas.{reverse_front, option_same, option_other}
 use Rattle.dl_numbers.proofs.order.push_children.Goals as goal

@@ -1,4 +1,4 @@
-use Rattle.std.proofs.Common.{◌≡◌, ◌+◌, ◌++◌, ◌∷◌, [], length, get_or, ap, subst, ◌∙◌, append_assoc, append-nil, arith}
+use Rattle.std.proofs.Common.{◌≡◌, ◌++◌, ◌∷◌, [], length, get_or, ap, subst, ◌∙◌, append_assoc, arith}
 use Rattle.dl_numbers.specs.DepthFirst.{AreExactly}
 use Rattle.dl_numbers.specs.Places.{places}
 use Rattle.dl_numbers.proofs.PlaceLemmas.{exactly_more, exactly_pass}
