@@ -36,7 +36,7 @@ Gathers-none numbered = record {
   few = All-nil (λ n. n ≤ max_nodes);
 }
 
-has_contains : (numbered : List ℕ) (name n : ℕ) → HasNumber numbered name n → Contains numbered name
+pub has_contains : (numbered : List ℕ) (name n : ℕ) → HasNumber numbered name n → Contains numbered name
 has_contains numbered name n h =
     (n - 1, slice_get_within numbered (n - 1) name h.is, get_or_from_slice_get numbered (n - 1) name name h.is)
 

@@ -4,6 +4,9 @@ use Rattle.std.specs.List.{All}
 use Rattle.std.specs.List.Sorted.{IsStrictlySortedBy}
 use Rattle.dl_terms.specs.Auxiliaries.{HasNoAuxiliary}
 use Rattle.dl_terms.specs.Order.{axiom_cmp}
+use Rattle.dl_terms.specs.Below.{RoleBelow, ConceptBelow}
+use Rattle.dl_terms.specs.Roles.{named}
+use Rattle.dl_terms.specs.declared.role.Basic.TheVariants.{Class}
 use Rattle.dl_terms.specs.declared.axiom.Axiom.{Axiom}
 use Rattle.dl_terms.specs.declared.axiom.Signature.{Signature}
 use Rattle.dl_terms.specs.declared.role.Normal.{Normal}
@@ -11,6 +14,7 @@ use Rattle.dl_normal.specs.Indexed.{IsNormalForm}
 use Rattle.dl_hier.specs.Hierarchy.{Hierarchy, IsHierarchyOf}
 use Rattle.dl_hier.specs.Predicates.{Predicates}
 use Rattle.dl_hier.specs.Rows.{ArePredicatesOf}
+use Rattle.dl_numbers.specs.Rule.{IsByRule}
 use Rattle.dl_epoch.specs.Known.{IsSignature, IsAxiomIn}
 use Rattle.dl_epoch.specs.Frozen.{frozen, IsFrozen, IsHierarchyIn}
 
@@ -29,14 +33,19 @@ predicates_of s axioms rows p is are normal other = subst (λ n. ArePredicatesOf
 module _ (id : ℕ) (axioms copied : List Axiom) (s signature : Signature) (classes roles : List ℕ)
     (same_axioms : copied ≡ axioms) (same_signature : signature ≡ s) where
   pub built_frozen : IsStrictlySortedBy axiom_cmp axioms → All HasNoAuxiliary axioms → All (IsAxiomIn s) axioms → IsSignature s
-      → classes ≡ s.classes → roles ≡ s.roles → IsFrozen (frozen id copied signature classes roles)
+      → IsByRule s.classes (λ c d. ConceptBelow axioms (Class c) (Class d)) classes
+      → IsByRule s.roles (λ p q. RoleBelow axioms (named p) (named q)) roles → IsFrozen (frozen id copied signature classes roles)
   built_frozen up plain known names c r = record {
     ascending = subst (IsStrictlySortedBy axiom_cmp) (sym same_axioms) up;
     no_auxiliary = subst (All HasNoAuxiliary) (sym same_axioms) plain;
     known = subst (λ z. All (IsAxiomIn z) copied) (sym same_signature) (subst (All (IsAxiomIn s)) (sym same_axioms) known);
     signature = subst IsSignature (sym same_signature) names;
-    class_numbers = c ∙ ap (λ (z : Signature). z.classes) (sym same_signature);
-    role_numbers = r ∙ ap (λ (z : Signature). z.roles) (sym same_signature);
+    class_numbers =
+        subst (λ z. IsByRule z.classes (λ c d. ConceptBelow copied (Class c) (Class d)) classes) (sym same_signature)
+        (subst (λ z. IsByRule s.classes (λ c d. ConceptBelow z (Class c) (Class d)) classes) (sym same_axioms) c);
+    role_numbers =
+        subst (λ z. IsByRule z.roles (λ p q. RoleBelow copied (named p) (named q)) roles) (sym same_signature)
+        (subst (λ z. IsByRule s.roles (λ p q. RoleBelow z (named p) (named q)) roles) (sym same_axioms) r);
   }
 
   pub built_hierarchy : (h : Hierarchy) → IsHierarchyOf h axioms → h.predicates.classes ≡ s.classes → h.predicates.properties ≡ s.roles

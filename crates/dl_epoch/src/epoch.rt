@@ -3,7 +3,10 @@ ghost use Rattle.std.specs.Prelude.{◌≡◌, ◌≤◌, length, Contains, IfOk
 ghost use Rattle.std.specs.List.{All};
 ghost use Rattle.std.specs.List.Sorted.{IsStrictlySortedBy};
 ghost use Rattle.dl_terms.specs.Auxiliaries.{HasNoAuxiliary};
+ghost use Rattle.dl_terms.specs.Below.{RoleBelow, ConceptBelow};
 ghost use Rattle.dl_terms.specs.Order.{axiom_cmp};
+ghost use Rattle.dl_terms.specs.Roles.{named};
+ghost use Rattle.dl_terms.specs.declared.role.Basic.TheVariants.{Class};
 ghost use Rattle.dl_normal.specs.Weight.{total_weight};
 ghost use Rattle.dl_terms.specs.declared.role.Normal.{Normal};
 ghost use Rattle.dl_normal.specs.Indexed.{IsNormalForm};
@@ -12,10 +15,10 @@ ghost use Rattle.dl_hier.specs.Rows.{ArePredicatesOf};
 ghost use Rattle.dl_numbers.specs.Numbers.{HasNumber};
 ghost use Rattle.dl_epoch.specs.Known.{IsSignature, IsAxiomIn, ArePredicatesFew, max_weight};
 ghost use Rattle.dl_epoch.specs.Frozen.{IsFrozen, IsHierarchyIn};
-ghost use Rattle.dl_epoch.specs.Translating.{AreNumbersOf};
+ghost use Rattle.dl_epoch.specs.Translating.{AreNumbersOf, IsOneInForest};
 
 use crate::copy::{copied_axioms, copied_signature};
-use crate::numbers::{Ranges, numbered, ranges_of};
+use crate::numbers::{Ranges, class_numbers, ranges_of, role_numbers};
 use dl_hier::{Below, Hier};
 use dl_normal::normal;
 use dl_numbers::Numbering;
@@ -70,8 +73,8 @@ impl Epoch {
         ensures frozen { IfOk result IsFrozen }
     {
         let hier = hier_of(alloc, axioms, signature)?;
-        let classes = numbered(alloc, signature.classes.as_slice())?;
-        let roles = numbered(alloc, signature.roles.as_slice())?;
+        let classes = class_numbers(alloc, &hier, signature.classes.as_slice())?;
+        let roles = role_numbers(alloc, &hier, signature.roles.as_slice())?;
         let axioms = copied_axioms(alloc, axioms)?;
         let signature = copied_signature(alloc, signature)?;
         Ok(Epoch {
@@ -147,11 +150,16 @@ impl Epoch {
     }
 
     /// The numbers, in this epoch, of exactly those predicates that are in its signature, as intervals. The predicates
-    /// usually come from another epoch. It fails only for want of memory.
+    /// usually come from another epoch. Where what is below what is a forest, all that is below one class, or below one
+    /// role, is one interval. It fails only for want of memory.
     pub fn translate(&self, alloc: Global, below: &Below) -> Result<Ranges, NoMemory>
         ensures classes { IfOk result (λ r. AreNumbersOf self.now.classes below.now.classes r.classes) }
         ensures forward { IfOk result (λ r. AreNumbersOf self.now.roles below.now.forward r.forward) }
         ensures backward { IfOk result (λ r. AreNumbersOf self.now.roles below.now.backward r.backward) }
+        ensures one_class { IfOk result (λ r. IsOneInForest self.now.signature.classes
+            (λ c d. ConceptBelow self.now.axioms (Class c) (Class d)) below.now.classes r.classes) }
+        ensures one_role { IfOk result (λ r. IsOneInForest self.now.signature.roles
+            (λ p q. RoleBelow self.now.axioms (named p) (named q)) below.now.forward r.forward) }
     {
         let classes = ranges_of(alloc, &self.classes, below.classes.as_slice())?;
         let forward = ranges_of(alloc, &self.roles, below.forward.as_slice())?;

@@ -1,13 +1,18 @@
 // Numbers of names, and names as intervals of numbers.
-ghost use Rattle.std.specs.Prelude.{◌≡◌, ◌≤◌, ◌↔◌, ℕ, length, All, Contains, IfOk};
+ghost use Rattle.std.specs.Prelude.{◌≡◌, ◌≤◌, ◌↔◌, ℕ, List as Items, length, All, Contains, IfOk};
 ghost use Rattle.std.specs.List.Sorted.{IsStrictlyIncreasing};
-ghost use Rattle.dl_hier.specs.Predicates.{max_predicates};
+ghost use Rattle.dl_terms.specs.Below.{RoleBelow, ConceptBelow};
+ghost use Rattle.dl_terms.specs.Roles.{named};
+ghost use Rattle.dl_terms.specs.declared.role.Basic.TheVariants.{Class};
+ghost use Rattle.dl_terms.specs.declared.axiom.Axiom.{Axiom};
 ghost use Rattle.dl_reach.specs.Digraph.{max_nodes};
+ghost use Rattle.dl_hier.specs.Hierarchy.{IsHierarchyOf};
+ghost use Rattle.dl_numbers.specs.Rule.{IsByRule};
 ghost use Rattle.dl_epoch.specs.Translating.{AreNumbersOf, IsNumberOf};
 
+use dl_hier::Hier;
 use dl_intervals::Intervals;
 use dl_numbers::Numbering;
-use dl_reach::{Closure, Graph};
 use dl_terms::{List, NoMemory, set_of};
 use std::alloc::Global;
 
@@ -19,28 +24,26 @@ pub struct Ranges {
     pub backward: Intervals,
 }
 
-/// The numbers of names. They go by the names alone for now, so that the order that is handed on has no edge.
-pub fn numbered(alloc: Global, names: &[u32]) -> Result<Numbering, NoMemory>
-    requires ascending { IsStrictlyIncreasing names.now }
-    requires few { length names.now ≤ max_predicates }
-    ensures { IfOk result (λ numbered. numbered ≡ names.now) }
+/// The numbers of the classes of a hierarchy, by which of them are below which. It fails only for want of memory.
+pub fn class_numbers(alloc: Global, hier: &Hier, classes: &[u32]) -> Result<Numbering, NoMemory>
+    requires classes { classes.now ≡ hier.now.predicates.classes }
+    requires ascending { IsStrictlyIncreasing classes.now }
+    ensures { IfOk result (λ numbered. (axioms : Items Axiom) → IsHierarchyOf hier.now axioms
+        → IsByRule classes.now (λ c d. ConceptBelow axioms (Class c) (Class d)) numbered) }
 {
-    let order = without_edges(alloc, names.len() as u32)?;
-    Numbering::build(alloc, names, &order)
+    let order = hier.class_order(alloc)?;
+    Numbering::build(alloc, classes, &order)
 }
 
-/// The closure of a graph without edges.
-fn without_edges(alloc: Global, nodes: u32) -> Result<Closure, NoMemory>
-    requires { nodes ≤ max_nodes }
-    ensures { IfOk result (λ closure. closure.nodes ≡ nodes) }
+/// The numbers of its roles, in the same way. It fails only for want of memory.
+pub fn role_numbers(alloc: Global, hier: &Hier, roles: &[u32]) -> Result<Numbering, NoMemory>
+    requires roles { roles.now ≡ hier.now.predicates.properties }
+    requires ascending { IsStrictlyIncreasing roles.now }
+    ensures { IfOk result (λ numbered. (axioms : Items Axiom) → IsHierarchyOf hier.now axioms
+        → IsByRule roles.now (λ p q. RoleBelow axioms (named p) (named q)) numbered) }
 {
-    match Graph::new(alloc, nodes, &[]) {
-        Ok(graph) => match graph.closure(alloc) {
-            Ok(closure) => Ok(closure),
-            Err(_) => Err(NoMemory),
-        },
-        Err(_) => Err(NoMemory),
-    }
+    let order = hier.role_order(alloc)?;
+    Numbering::build(alloc, roles, &order)
 }
 
 /// The intervals of the numbers of those names that have one.

@@ -6,6 +6,7 @@ pub mod OrderLemmas
 pub mod DepthFirstLemmas
 pub mod RunLemmas
 pub mod LawLemmas
+pub mod ByRuleLemmas
 pub mod PlaceLemmas
 pub mod LoopLemmas
 pub mod GrowLemmas
