@@ -1,16 +1,10 @@
--- What is below what is decided, since chains over a list of steps are: so each probe has a list of its pairs, and each
--- disjunct one of its tuples.
-use Rattle.std.proofs.Common.{◌≡◌, ℕ, zero, suc, ◌<◌, ◌⊎◌, inl, inr, List, [], ◌∷◌, length, get_or, refl, sym, ap, subst, ◌∙◌, arith}
-use Rattle.std.specs.declared.cmp.Ordering.{Ordering}
-use Rattle.std.specs.declared.cmp.Ordering.TheVariants.{Less, Equal, Greater}
-use Rattle.std.specs.Ordering.{ordering_reverse}
-use Rattle.std.specs.List.{All, Contains}
+-- What is below what is decided: so each probe has a list of its pairs, and each disjunct one of its tuples.
+use Rattle.std.proofs.Common.{◌≡◌, ℕ, zero, suc, ◌<◌, ◌⊎◌, inl, inr, List, [], ◌∷◌, length, get_or, refl, sym, ap, subst, arith}
+use Rattle.std.specs.List.{All}
 use Rattle.std.proofs.lemmas.List.Elements.{All-head, All-tail}
 use Rattle.std.proofs.lemmas.Map.Keys.{IsStrictlyIncreasing-from_sorted}
-use Rattle.dl_terms.specs.Chain.{Chain}
 use Rattle.dl_terms.specs.Roles.{named, inverse_of}
 use Rattle.dl_terms.specs.Below.{RoleBelow, ConceptBelow}
-use Rattle.dl_terms.specs.declared.role.Role.{Role}
 use Rattle.dl_terms.specs.declared.role.Basic.{Basic}
 use Rattle.dl_terms.specs.declared.role.Basic.TheVariants.{Class, SomeOf}
 use Rattle.dl_terms.specs.declared.axiom.Axiom.{Axiom}
@@ -19,13 +13,12 @@ use Rattle.dl_terms.specs.declared.query.Probe.{Probe}
 use Rattle.dl_terms.specs.declared.query.Probe.TheVariants.{AnyOf, Joined}
 use Rattle.dl_terms.specs.declared.query.Query.{Query}
 use Rattle.dl_terms.specs.declared.query.Disjunct.{Disjunct}
-use Rattle.dl_terms.proofs.OrderLemmas.{IsLinear, numbers_linear, roles_linear, basics_linear}
+use Rattle.dl_terms.proofs.OrderLemmas.{numbers_linear}
 use Rattle.dl_terms.proofs.MemberLemmas.{Contains-nil, Contains-first, Contains-later, Contains-cons}
-use Rattle.dl_terms.proofs.BelowLemmas.{Chain-one, Chain-trans}
-use Rattle.dl_hier.specs.Hierarchy.{Hierarchy, IsStep, IsHierarchyOf}
+use Rattle.dl_hier.specs.Hierarchy.{Hierarchy}
 use Rattle.dl_hier.specs.Below.{IsBelowOneOf, AreThose}
 use Rattle.dl_hier.specs.declared.below.Below.{Below}
-use Rattle.dl_hier.proofs.SortedLemmas.{not_itself}
+use Rattle.dl_hier.proofs.DecidedLemmas.{role_decided, concept_decided}
 use Rattle.dl_join.specs.Tuples.{AreExactly}
 use Rattle.dl_join.proofs.OrderLemmas.{pair_linear}
 use Rattle.dl_rewrite.specs.OverNames.{HasOverNames, SomeHasOverNames}
@@ -38,7 +31,7 @@ use Rattle.dl_answer.proofs.StepLemmas.{holds_alike, exactly_over, exactly_same}
 
 -- ---- what is below a probe
 
-module _ (axioms : List Axiom) (h : Hierarchy) (of : IsHierarchyOf h axioms) where
+module _ (axioms : List Axiom) (h : Hierarchy) where
   one_of_decided : (basics : List Basic) (b : Basic) → Decided (IsBelowOneOf axioms basics b)
   one_of_decided basics b = elim (some_decided (λ c. ConceptBelow axioms b c) (λ c. concept_decided axioms b c) basics) [
     | inl w ↦ inl (w.1.0, w.0, w.1.1, w.1.2, w.2)
@@ -81,7 +74,7 @@ module _ (axioms : List Axiom) (facts : List Fact) (h : Hierarchy) (behind : Are
   where
     list_exists : (probe : Probe) → (pairs : List (ℕ × ℕ)) × HoldsAlike axioms facts probe pairs
     list_exists probe =
-        let below = below_exists axioms h behind.hierarchy probe in
+        let below = below_exists axioms h probe in
         let all = pairs_exist facts below.0 in
         let set = set_exists pair_linear all.0 in (
           set.0,

@@ -1,4 +1,4 @@
--- What is below what is decided, since chains over a list of steps are.
+-- Whether a chain over a list of steps leads from one to another is decided, and so is what is below what by any axioms.
 use Rattle.std.proofs.Common.{◌≡◌, ◌⊎◌, inl, inr, List, [], ◌∷◌, refl, sym, ap, subst, ◌∙◌}
 use Rattle.std.specs.declared.cmp.Ordering.{Ordering}
 use Rattle.std.specs.declared.cmp.Ordering.TheVariants.{Less, Equal, Greater}
@@ -6,19 +6,18 @@ use Rattle.std.specs.Ordering.{ordering_reverse}
 use Rattle.std.specs.List.{Contains}
 use Rattle.dl_terms.specs.Chain.{Chain}
 use Rattle.dl_terms.specs.Below.{RoleBelow, ConceptBelow}
+use Rattle.dl_terms.specs.NormalForm.{role_inclusions, concept_inclusions}
 use Rattle.dl_terms.specs.declared.role.Role.{Role}
 use Rattle.dl_terms.specs.declared.role.Basic.{Basic}
 use Rattle.dl_terms.specs.declared.axiom.Axiom.{Axiom}
 use Rattle.dl_terms.proofs.OrderLemmas.{IsLinear, roles_linear, basics_linear}
 use Rattle.dl_terms.proofs.MemberLemmas.{Contains-nil, Contains-first, Contains-later, Contains-cons}
 use Rattle.dl_terms.proofs.BelowLemmas.{Chain-one, Chain-trans}
-use Rattle.dl_terms.specs.NormalForm.{role_inclusions}
+use Rattle.dl_hier.specs.Rows.{role_steps, concept_steps}
 use Rattle.dl_hier.specs.Hierarchy.{IsStep}
-use Rattle.dl_hier.specs.Rows.{role_steps}
 use Rattle.dl_hier.proofs.SortedLemmas.{not_itself}
-use Rattle.dl_hier.proofs.StepLemmas.{all_steps, role-chains, concept-chains}
+use Rattle.dl_hier.proofs.StepLemmas.{role-chains, concept-chains}
 
--- it holds, or it doesn't
 abbrev pub Decided : Type 0 → Type 0
 Decided P = P ⊎ (P → ⊥)
 
@@ -87,5 +86,6 @@ module _ (axioms : List Axiom) where
       [ inl c ↦ inl ((role-chains axioms).1 c) | inr none ↦ inr (λ b. none ((role-chains axioms).0 b)) ]
 
   pub concept_decided : (b c : Basic) → Decided (ConceptBelow axioms b c)
-  concept_decided b c = elim (chain_decided basics_linear (all_steps axioms) b c)
+  concept_decided b c = elim
+      (chain_decided basics_linear (concept_steps (role_steps (role_inclusions axioms)) (concept_inclusions axioms)) b c)
       [ inl d ↦ inl ((concept-chains axioms).1 d) | inr none ↦ inr (λ d. none ((concept-chains axioms).0 d)) ]

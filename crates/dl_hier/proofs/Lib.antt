@@ -3,6 +3,7 @@ pub mod MemberLemmas
 pub mod PredicateLemmas
 pub mod ChainLemmas
 pub mod StepLemmas
+pub mod DecidedLemmas
 pub mod GraphLemmas
 pub mod QueryLemmas
 pub mod PickLemmas
