@@ -12,4 +12,3 @@ pub mod SearchLemmas
 pub mod HierLemmas
 pub mod WayLemmas
 pub mod RowLemmas
-pub mod DecidedLemmas
