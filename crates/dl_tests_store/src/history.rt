@@ -38,7 +38,7 @@ const B_BOB: Fact = Fact::Is { class: B, who: BOB };
 pub(crate) type Case = (Start, &'static [(Asked, Told)]);
 
 const CASES: [Case; 5] = [
-    // A new class opens an epoch, and all rows are old.
+    // A new class opens an epoch, and all rows are old. B comes before A, which is below it.
     (
         Start {
             classes: &[A, B],
@@ -57,12 +57,12 @@ const CASES: [Case; 5] = [
                 Asked::Look(10),
                 Told::Looked(Shown {
                     counts: (2, 2, 2, 3, 3, 3),
-                    classes: &[A, AA, B],
+                    classes: &[AA, B, A],
                     roles: &[],
                     rows: &[
-                        class_row!(1, 1, ANN, 1, OPEN),
-                        class_row!(1, 1, BOB, 1, OPEN),
-                        class_row!(1, 1, CLEO, 1, OPEN),
+                        class_row!(1, 2, ANN, 1, OPEN),
+                        class_row!(1, 2, BOB, 1, OPEN),
+                        class_row!(1, 2, CLEO, 1, OPEN),
                     ],
                 }),
             ),
@@ -70,11 +70,11 @@ const CASES: [Case; 5] = [
                 Asked::Look(2),
                 Told::Looked(Shown {
                     counts: (2, 2, 2, 3, 3, 3),
-                    classes: &[A, AA, B],
+                    classes: &[AA, B, A],
                     roles: &[],
                     rows: &[
-                        class_row!(1, 1, ANN, 1, OPEN),
-                        class_row!(1, 1, BOB, 1, OPEN),
+                        class_row!(1, 2, ANN, 1, OPEN),
+                        class_row!(1, 2, BOB, 1, OPEN),
                     ],
                 }),
             ),
@@ -84,12 +84,12 @@ const CASES: [Case; 5] = [
                 Asked::Look(10),
                 Told::Looked(Shown {
                     counts: (2, 2, 2, 3, 3, 2),
-                    classes: &[A, AA, B],
+                    classes: &[AA, B, A],
                     roles: &[],
                     rows: &[
-                        class_row!(1, 1, BOB, 1, OPEN),
-                        class_row!(1, 1, CLEO, 1, OPEN),
-                        class_row!(2, 1, ANN, 1, OPEN),
+                        class_row!(1, 2, BOB, 1, OPEN),
+                        class_row!(1, 2, CLEO, 1, OPEN),
+                        class_row!(2, 3, ANN, 1, OPEN),
                     ],
                 }),
             ),
@@ -106,7 +106,7 @@ const CASES: [Case; 5] = [
                 Asked::Look(0),
                 Told::Looked(Shown {
                     counts: (4, 3, 3, 3, 3, 3),
-                    classes: &[A, AA, B],
+                    classes: &[AA, B, A],
                     roles: &[P],
                     rows: &[],
                 }),
@@ -184,11 +184,11 @@ const CASES: [Case; 5] = [
                 Asked::Look(10),
                 Told::Looked(Shown {
                     counts: (2, 2, 2, 2, 2, 2),
-                    classes: &[A, B, C],
+                    classes: &[C, B, A],
                     roles: &[],
                     rows: &[
-                        class_row!(1, 1, ANN, 1, OPEN),
-                        class_row!(1, 2, BOB, 1, OPEN),
+                        class_row!(1, 1, BOB, 1, OPEN),
+                        class_row!(1, 2, ANN, 1, OPEN),
                     ],
                 }),
             ),
@@ -197,11 +197,11 @@ const CASES: [Case; 5] = [
                 Asked::Look(10),
                 Told::Looked(Shown {
                     counts: (2, 2, 2, 2, 2, 0),
-                    classes: &[A, B, C],
+                    classes: &[C, B, A],
                     roles: &[],
                     rows: &[
-                        class_row!(2, 1, ANN, 1, OPEN),
                         class_row!(2, 2, BOB, 1, OPEN),
+                        class_row!(2, 3, ANN, 1, OPEN),
                     ],
                 }),
             ),
@@ -219,11 +219,11 @@ const CASES: [Case; 5] = [
             Asked::Look(10),
             Told::Looked(Shown {
                 counts: (1, 1, 1, 2, 2, 0),
-                classes: &[A, B, C],
+                classes: &[C, B, A],
                 roles: &[],
                 rows: &[
-                    class_row!(1, 1, ANN, 1, OPEN),
                     class_row!(1, 2, BOB, 1, OPEN),
+                    class_row!(1, 3, ANN, 1, OPEN),
                 ],
             }),
         )],

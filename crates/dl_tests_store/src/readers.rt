@@ -45,8 +45,8 @@ fn reads<R: Reads>(reader: &mut R, version: u32, rows: &[Row]) -> bool {
     reader.pin() == Some(pin) && has(reader.shard(), rows)
 }
 
-/// The one row of the fact.
-const ONE_ROW: [Row; 1] = [class_row!(1, 1, ANN, 1, OPEN)];
+/// The one row of the fact: A has the number 2, behind B.
+const ONE_ROW: [Row; 1] = [class_row!(1, 2, ANN, 1, OPEN)];
 
 /// Whether stream 1 is pinned to a version, and the root has the axiom at version 1 and none at version 2.
 fn reads_both(alloc: Global, root: &Root, version: u32) -> Result<bool, NoMemory> {

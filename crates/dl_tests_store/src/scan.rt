@@ -17,9 +17,10 @@ type Case = (Asked, u32, &'static [&'static [Row]], &'static [Pair]);
 /// The classes below B in the first epoch.
 const BELOW_B: Asked = (&[A, B], &[], &[]);
 
-/// An A of the first epoch, and one of each class of the second, the last of which ends at version 2.
+/// An A of the first epoch, where B comes first, and one of each class of the second, the last of which ends at version
+/// 2.
 const MIXED: &[Row] = &[
-    class_row!(1, 1, 20, 1, OPEN),
+    class_row!(1, 2, 20, 1, OPEN),
     class_row!(2, 1, 21, 1, OPEN),
     class_row!(2, 2, 22, 1, OPEN),
     class_row!(2, 3, 23, 1, 2),
@@ -51,7 +52,7 @@ const CASES: [Case; 13] = [
     (
         (&[B], &[], &[]),
         2,
-        &[MIXED, &[class_row!(1, 2, 24, 1, OPEN)]],
+        &[MIXED, &[class_row!(1, 1, 24, 1, OPEN)]],
         &[(24, 24)],
     ),
     // Rows in several shards, each pair once.

@@ -35,6 +35,6 @@ returns-clause-frozen c =
     built_frozen c.args.id c.args.axioms.now c.in_ok-axioms.axioms c.args.signature.now c.in_ok-signature.signature c.in_ok-classes.classes c.in_ok-roles.roles
     c.in_ok-axioms.ensures c.in_ok-signature.ensures c.requires.ascending c.requires.no_auxiliary c.requires.known c.requires.signature
     (subst (λ ns. IsByRule ns (IsClassBelow c.args.axioms.now) c.in_ok-classes.classes) c.as_slice.ensures
-      (c.in_ok-classes.ensures c.args.axioms.now c.in_ok-hier.ensures.hierarchy))
-      (subst (λ ns. IsByRule ns (IsRoleBelow c.args.axioms.now) c.in_ok-roles.roles) c.as_slice-2.ensures
-      (c.in_ok-roles.ensures c.args.axioms.now c.in_ok-hier.ensures.hierarchy))
+    (c.in_ok-classes.ensures c.args.axioms.now c.in_ok-hier.ensures.hierarchy))
+    (subst (λ ns. IsByRule ns (IsRoleBelow c.args.axioms.now) c.in_ok-roles.roles) c.as_slice-2.ensures
+    (c.in_ok-roles.ensures c.args.axioms.now c.in_ok-hier.ensures.hierarchy))
