@@ -8,6 +8,7 @@ pub mod RunLemmas
 pub mod LawLemmas
 pub mod ByRuleLemmas
 pub mod PlaceLemmas
+pub mod LowestLemmas
 pub mod LoopLemmas
 pub mod GrowLemmas
 pub mod NameLemmas

@@ -1,17 +1,14 @@
 -- Places of names: lists that grow place by place, classes by their least places, and the parent that a search finds.
-use Rattle.std.proofs.Common.{Bool, true, false, not, eqb, IsTrue, true≢false, ◌≡◌, ℕ, zero, suc, ◌+◌, ◌<◌, ◌≤◌, ◌↔◌, ◌⊎◌, inl, inr, List, [], ◌∷◌, ◌++◌, length, get_or, Option, Some, None, MatchOption, refl, sym, ap, subst, ◌∙◌, le_antisymm, arith}
+use Rattle.std.proofs.Common.{Bool, true, false, not, eqb, IsTrue, true≢false, ◌≡◌, ℕ, zero, suc, ◌+◌, ◌<◌, ◌≤◌, ◌↔◌, ◌⊎◌, inl, inr, List, [], ◌∷◌, ◌++◌, get_or, refl, sym, subst, ◌∙◌, le_antisymm, arith}
 use Rattle.std.specs.List.{Contains}
 use Rattle.std.specs.List.Sorted.{IsStrictlyIncreasing}
 use Rattle.std.proofs.lemmas.Bool.{cases_lt, eq-eqb, eqb-true}
-use Rattle.std.proofs.lemmas.List.{get_or_default}
 use Rattle.std.proofs.lemmas.List.Elements.{Contains-append_left, Contains-append_right, Contains-append_cases}
-use Rattle.std.proofs.lemmas.List.Kept.{AllPairs-from_increasing}
 use Rattle.dl_terms.proofs.MemberLemmas.{Contains-nil, Contains-first, Contains-later, Contains-one}
 use Rattle.dl_reach.specs.Digraph.{Digraph, IsEdge, AreConnected}
 use Rattle.dl_reach.proofs.Chains.{Chain-refl, Chain-trans}
-use Rattle.dl_numbers.specs.DepthFirst.{AreExactly, IsLeast, IsLeastAbove, IsParent}
-use Rattle.dl_numbers.specs.Places.{places, Reaches, IsAbove, IsLowest, IsFirstLowest, AreLeaders}
-use Rattle.dl_numbers.proofs.OrderLemmas.{chain_decided}
+use Rattle.dl_numbers.specs.DepthFirst.{AreExactly, IsLeast}
+use Rattle.dl_numbers.specs.Places.{places, Reaches, IsAbove, AreLeaders}
 
 pub in_places : (n k : ℕ) → Contains (places n) k ↔ (k < n)
 in_places zero k = (λ c. absurd (Contains-nil k c), λ h. absurd (omega (arith, h)))
@@ -123,69 +120,3 @@ module _ (order : Digraph) (leaders : List ℕ) (are : AreLeaders order leaders)
       by : (t : Bool) → eqb (leader b) (leader a) ≡ t → IsTrue (not t) ↔ IsAbove order b a
       by true e = (λ h. absurd (true≢false (sym h)), λ is. absurd (told_above b a hb ha is (eqb-true (leader b) (leader a) e)))
       by false e = (λ h. above_told b a hb ha up (λ same. true≢false (sym (eq-eqb (leader b) (leader a) same) ∙ e)), λ is. refl)
-
--- ---- the first of the lowest
-
-module _ (order : Digraph) (above : List ℕ) where
-  abbrev NoneBefore : ℕ → Type 0
-  NoneBefore i = (k : ℕ) → k < i → IsLowest order above (get_or above k 0) → ⊥
-
-  pub first_found : IsStrictlyIncreasing above → (i : ℕ) → i < length above → NoneBefore i → IsLowest order above (get_or above i 0)
-      → IsFirstLowest order above (get_or above i 0)
-  first_found up i h none_before lowest = record {
-    among = (i, h, get_or_default above i (get_or above i 0) 0 h);
-    lowest = lowest;
-    first = λ b c l. elim (cases_lt c.0 i) [
-      | inl lt ↦ absurd (none_before c.0 lt (subst (IsLowest order above) (sym (get_or_default above c.0 0 b c.1 ∙ c.2)) l))
-      | inr le ↦ by b c (cases_lt i c.0) le
-    ];
-  }
-    where
-      by : (b : ℕ) (c : Contains above b) → (i < c.0) ⊎ (c.0 ≤ i) → i ≤ c.0 → get_or above i 0 ≤ b
-      by b c (inl lt) le =
-          let less = AllPairs-from_increasing above up i c.0 0 lt c.1 in
-          let is = get_or_default above c.0 0 b c.1 ∙ c.2 in
-          omega (arith, less, is)
-      by b c (inr ge) le =
-          let same : i ≡ c.0 = omega (arith, ge, le) in
-          let is : get_or above i 0 ≡ b = ap (λ k. get_or above k 0) same ∙ get_or_default above c.0 0 b c.1 ∙ c.2 in
-          omega (arith, is)
-
-  pub none_more : (i : ℕ) → NoneBefore i → (IsLowest order above (get_or above i 0) → ⊥) → NoneBefore (i + 1)
-  none_more i none_before never k h l = elim (cases_lt k i) [
-    | inl lt ↦ none_before k lt l
-    | inr le ↦ let same : k ≡ i = omega (arith, h, le) in never (subst (λ j. IsLowest order above (get_or above j 0)) same l)
-  ]
-
-  pub none_at_all : (i : ℕ) → length above ≤ i → NoneBefore i → (b : ℕ) → Contains above b → IsLowest order above b → ⊥
-  none_at_all i h none_before b c l = none_before c.0 (let k = c.1 in omega (arith, h, k)) (subst (IsLowest order above) (sym (get_or_default above c.0 0 b c.1 ∙ c.2)) l)
-
--- ---- the parent
-
-module _ (order : Digraph) (place : ℕ) (above : List ℕ) (are : AreExactly (places order.nodes) (λ other. IsAbove order other place) above) where
-  lowest_least : (b : ℕ) → Contains above b → IsLowest order above b → IsLeastAbove (places order.nodes) (Reaches order) b place
-  lowest_least b h lowest = let is = (are.exact b).0 h in record {
-    among = is.0;
-    above = is.1;
-    least = λ c hc sc down. elim (chain_decided order.edges b c) [
-      | inl up ↦ up
-      | inr never ↦ absurd (lowest c ((are.exact c).1 (hc, sc)) (down, never))
-    ];
-  }
-
-  least_lowest : (b : ℕ) → IsLeastAbove (places order.nodes) (Reaches order) b place → Contains above b × IsLowest order above b
-  least_lowest b is = ((are.exact b).1 (is.among, is.above), λ c h over. let k = (are.exact c).0 h in over.1 (is.least c k.0 k.1 over.0))
-
-  pub parent_found : (b : ℕ) → IsFirstLowest order above b → IsParent (places order.nodes) (Reaches order) b place
-  parent_found b is = record {
-    above = lowest_least b is.among is.lowest;
-    first = λ c l. let k = least_lowest c l in is.first c k.0 k.1;
-  }
-
-  pub no_parent_found : ((b : ℕ) → Contains above b → IsLowest order above b → ⊥) → (p : ℕ) → IsParent (places order.nodes) (Reaches order) p place → ⊥
-  no_parent_found never p is = let k = least_lowest p is.above in never p k.0 k.1
-
-  pub parent_told : (found : Option ℕ) → MatchOption found ((b : ℕ) → Contains above b → IsLowest order above b → ⊥) (λ b. IsFirstLowest order above b)
-      → MatchOption found ((p : ℕ) → IsParent (places order.nodes) (Reaches order) p place → ⊥) (λ p. IsParent (places order.nodes) (Reaches order) p place)
-  parent_told None never = no_parent_found never
-  parent_told (Some b) is = parent_found b is

@@ -17,6 +17,14 @@ Reaches order = Chain (IsEdge order)
 abbrev pub IsAbove : Digraph → ℕ → ℕ → Type 0
 IsAbove order = IsStrictlyAbove (places order.nodes) (Reaches order)
 
+-- so it is, and the least of its class
+abbrev pub IsLeaderAbove : Digraph → List ℕ → ℕ → ℕ → Type 0
+IsLeaderAbove order leaders b a = (get_or leaders b 0 ≡ b) × IsAbove order b a
+
+-- neither the other nor strictly above it
+abbrev pub IsBeside : Digraph → ℕ → ℕ → Type 0
+IsBeside order b a = (b ≡ a → ⊥) × (IsAbove order b a → ⊥)
+
 -- it is strictly above none of some places
 abbrev pub IsLowest : Digraph → List ℕ → ℕ → Type 0
 IsLowest order above b = (c : ℕ) → Contains above c → IsAbove order b c → ⊥

@@ -2,7 +2,7 @@
 ghost use Rattle.std.specs.Prelude.{◌≡◌, ◌<◌, ◌↔◌, ℕ, length, All, Contains, IfOk, IsTrue, MatchOption};
 ghost use Rattle.std.specs.List.Sorted.{IsStrictlyIncreasing};
 ghost use Rattle.dl_numbers.specs.DepthFirst.{AreExactly, IsLeast, IsParent};
-ghost use Rattle.dl_numbers.specs.Places.{places, Reaches, IsAbove, IsLowest, IsFirstLowest, AreLeaders, AreParents};
+ghost use Rattle.dl_numbers.specs.Places.{places, Reaches, IsAbove, IsLeaderAbove, IsBeside, IsLowest, IsFirstLowest, AreLeaders, AreParents};
 
 use dl_reach::Closure;
 use dl_terms::NoMemory;
@@ -52,54 +52,111 @@ fn parent_if_least(
         return Ok(None);
     }
     let above = above(alloc, order, leaders, place)?;
-    Ok(first_lowest(order, leaders, &above))
+    first_lowest(alloc, order, leaders, &above)
 }
 
-/// The places strictly above one, ascending.
+/// The places strictly above one that are the least of their classes, ascending.
 fn above(alloc: Global, order: &Closure, leaders: &[u32], place: u32) -> Result<Vec<u32>, NoMemory>
     requires leaders { AreLeaders order.now leaders.now }
     requires within { place < order.now.nodes }
     ensures { IfOk result (λ found. AreExactly (places order.now.nodes)
-        (λ other. IsAbove order.now other place) found.items) }
+        (λ other. IsLeaderAbove order.now leaders.now other place) found.items) }
 {
     let mut found = Vec::new(alloc);
     for other in 0..order.nodes() {
-        if is_above(order, leaders, other, place) {
+        if is_leader_above(order, leaders, other, place) {
             found.push(other)?;
         }
     }
     Ok(found)
 }
 
-/// The first of some places that is strictly above none of them.
-fn first_lowest(order: &Closure, leaders: &[u32], above: &[u32]) -> Option<u32>
+/// The first of some places that is strictly above none of them. Each round finds one that is so, and leaves out what is
+/// above it: a chain takes one round, in whatever order its places are.
+fn first_lowest(
+    alloc: Global,
+    order: &Closure,
+    leaders: &[u32],
+    above: &[u32],
+) -> Result<Option<u32>, NoMemory>
     requires leaders { AreLeaders order.now leaders.now }
     requires within { All (λ other. other < order.now.nodes) above.now }
     requires ascending { IsStrictlyIncreasing above.now }
-    ensures { MatchOption result ((b : ℕ) → Contains above.now b → IsLowest order.now above.now b → ⊥)
-        (λ b. IsFirstLowest order.now above.now b) }
+    ensures { IfOk result (λ first. MatchOption first
+        ((b : ℕ) → Contains above.now b → IsLowest order.now above.now b → ⊥)
+        (λ b. IsFirstLowest order.now above.now b)) }
 {
-    for place in above {
-        if is_lowest(order, leaders, above, *place) {
-            return Some(*place);
-        }
+    let Some(mut first) = one_lowest(order, leaders, above) else {
+        return Ok(None);
+    };
+    let mut left = without(alloc, order, leaders, above, first)?;
+    while let Some(lowest) = one_lowest(order, leaders, &left) {
+        first = first.min(lowest);
+        left = without(alloc, order, leaders, &left, lowest)?;
     }
-    None
+    Ok(Some(first))
 }
 
-/// Whether a place is strictly above none of some others.
-fn is_lowest(order: &Closure, leaders: &[u32], above: &[u32], place: u32) -> bool
+/// Of some places one that is strictly above none of them.
+fn one_lowest(order: &Closure, leaders: &[u32], left: &[u32]) -> Option<u32>
     requires leaders { AreLeaders order.now leaders.now }
-    requires within { All (λ other. other < order.now.nodes) above.now }
-    requires place { place < order.now.nodes }
-    ensures { IsTrue result ↔ IsLowest order.now above.now place }
+    requires within { All (λ other. other < order.now.nodes) left.now }
+    ensures { MatchOption result (length left.now ≡ 0)
+        (λ b. Contains left.now b × IsLowest order.now left.now b) }
 {
-    for other in above {
-        if is_above(order, leaders, place, *other) {
-            return false;
+    if left.is_empty() {
+        return None;
+    }
+    let mut lowest = left[0];
+    for place in left {
+        if is_above(order, leaders, lowest, *place) {
+            lowest = *place;
         }
     }
-    true
+    Some(lowest)
+}
+
+/// Those of some places, ascending, that are neither the one nor strictly above it.
+fn without(
+    alloc: Global,
+    order: &Closure,
+    leaders: &[u32],
+    left: &[u32],
+    lowest: u32,
+) -> Result<Vec<u32>, NoMemory>
+    requires leaders { AreLeaders order.now leaders.now }
+    requires within { All (λ other. other < order.now.nodes) left.now }
+    requires ascending { IsStrictlyIncreasing left.now }
+    requires lowest { lowest < order.now.nodes }
+    ensures { IfOk result (λ kept. AreExactly left.now (λ other. IsBeside order.now other lowest) kept.items) }
+{
+    let mut kept = Vec::new(alloc);
+    for other in left {
+        if is_beside(order, leaders, *other, lowest) {
+            kept.push(*other)?;
+        }
+    }
+    Ok(kept)
+}
+
+/// Whether a place is neither another nor strictly above it.
+fn is_beside(order: &Closure, leaders: &[u32], place: u32, lowest: u32) -> bool
+    requires leaders { AreLeaders order.now leaders.now }
+    requires place { place < order.now.nodes }
+    requires lowest { lowest < order.now.nodes }
+    ensures { IsTrue result ↔ IsBeside order.now place lowest }
+{
+    place != lowest && !is_above(order, leaders, place, lowest)
+}
+
+/// Whether the one place is strictly above the other, and the least of its class.
+fn is_leader_above(order: &Closure, leaders: &[u32], above: u32, place: u32) -> bool
+    requires leaders { AreLeaders order.now leaders.now }
+    requires above { above < order.now.nodes }
+    requires place { place < order.now.nodes }
+    ensures { IsTrue result ↔ IsLeaderAbove order.now leaders.now above place }
+{
+    leaders[above as usize] == above && is_above(order, leaders, above, place)
 }
 
 /// Whether the one place is strictly above the other.

@@ -1,6 +1,9 @@
-use Rattle.std.proofs.Common.{ℕ, ◌<◌, get_or}
-use Rattle.dl_numbers.specs.Places.{IsLowest}
+use Rattle.std.proofs.Common.{length}
+use Rattle.dl_numbers.proofs.LowestLemmas.{IsSearched}
 use Rattle.dl_numbers.proofs.classes.first_lowest.Given as goal
 
-abbrev pub invariant-loop-place : goal.invariant-loop-place
-invariant-loop-place l = (k : ℕ) → k < l.place-index → IsLowest l.order l.above (get_or l.above k 0) → ⊥
+abbrev pub invariant-loop-lowest : goal.invariant-loop-lowest
+invariant-loop-lowest l = IsSearched l.order l.above l.left.items l.first
+
+abbrev pub decreases-loop-lowest : goal.decreases-loop-lowest
+decreases-loop-lowest l = length l.left.items
