@@ -1,13 +1,14 @@
 -- Numbers of names: a list that has each name at one place gives it one number.
-use Rattle.std.proofs.Common.{◌≡◌, ℕ, zero, suc, ◌-◌, ◌<◌, ◌⊎◌, Bool, true, false, cond, ◌==◌, List, [], ◌∷◌, length, get_or, slice_get, Contains, Option, Some, None, refl, sym, ap, subst, ◌∙◌, inl, inr, arith}
-use Rattle.std.specs.List.Sorted.{IsStrictlyIncreasing}
-use Rattle.std.proofs.lemmas.Bool.{cases_order, eq-eqb, eqb-true}
-use Rattle.std.proofs.lemmas.List.Kept.{AllPairs-from_increasing}
+use Rattle.std.proofs.Common.{◌≡◌, ℕ, zero, suc, ◌+◌, ◌-◌, ◌<◌, Bool, true, false, cond, ◌==◌, List, [], ◌∷◌, length, get_or, slice_get, Contains, Option, Some, None, refl, sym, ap, subst, ◌∙◌, arith}
+use Rattle.std.proofs.lemmas.Bool.{eq-eqb, eqb-true}
 use Rattle.dl_row.specs.Rows.{name_at, number_from, number_of}
 use Rattle.dl_row.specs.declared.row.Kind.{Kind}
 use Rattle.dl_row.specs.declared.row.Kind.TheVariants.{Class, Role}
 use Rattle.dl_epoch.specs.Frozen.{Frozen, IsFrozen}
+use Rattle.dl_epoch.proofs.EpochLemmas.{has_contains}
+use Rattle.dl_epoch.proofs.NumberingLemmas.{classes_numbered, roles_numbered}
 use Rattle.dl_numbers.specs.Numbers.{HasNumber}
+use Rattle.dl_numbers.specs.Runs.{AreNumbered}
 use Rattle.dl_migrate.specs.Naming.{names_by, signed_by}
 
 pub some_none : {A : Type 0} {x : A} → None ≡ Some x → ⊥
@@ -40,21 +41,18 @@ get_there (y ∷ xs) (suc k) d h = get_there xs k d (omega (arith, h))
 pub record StandOnce (names : List ℕ) : Type 0 where
   pub place : (i j x : ℕ) → slice_get names i ≡ Some x → slice_get names j ≡ Some x → i ≡ j
 
-increasing-once : (names : List ℕ) → IsStrictlyIncreasing names → StandOnce names
-increasing-once names up = record { place = λ i j x e f. by i j x (get_read names i x 0 e) (get_read names j x 0 f) (cases_order i j) }
+numbered-once : (names numbered : List ℕ) → AreNumbered names numbered → StandOnce numbered
+numbered-once names numbered are = record {
+  place = λ i j x e f.
+      let same = are.one x (i + 1) (j + 1) (number i x e) (number j x f) in
+      omega (arith, same);
+}
   where
-    by : (i j x : ℕ) → (i < length names) × (get_or names i 0 ≡ x) → (j < length names) × (get_or names j 0 ≡ x) → (i ≡ j) ⊎ ((i < j) ⊎ (j < i)) → i ≡ j
-    by i j x a b (inl e) = e
-    by i j x a b (inr (inl lt)) =
-        let less = AllPairs-from_increasing names up i j 0 lt b.0 in
-        let e = a.1 in
-        let f = b.1 in
-        absurd (omega (arith, less, e, f))
-    by i j x a b (inr (inr gt)) =
-        let less = AllPairs-from_increasing names up j i 0 gt a.0 in
-        let e = a.1 in
-        let f = b.1 in
-        absurd (omega (arith, less, e, f))
+    number : (k x : ℕ) → slice_get numbered k ≡ Some x → HasNumber numbered x (k + 1)
+    number k x e = let back : k + 1 - 1 ≡ k = omega arith in record {
+      from_one = omega arith;
+      is = subst (λ n. slice_get numbered n ≡ Some x) (sym back) e;
+    }
 
 -- ---- numbers
 
@@ -106,11 +104,15 @@ same_number numbered other (suc m) read (suc k) name once h g e = sym (number_is
 
 -- ---- the numbers of an epoch
 
--- the rule numbers each name of the signature once
+-- the names of the signature have numbers, by the rule
+frozen-numbered : (e : Frozen) → IsFrozen e → (k : Kind) → AreNumbered (signed_by k e.signature) (names_by k e)
+frozen-numbered e is Class = classes_numbered e.axioms e.signature.classes is.signature.classes e.classes is.class_numbers
+frozen-numbered e is Role = roles_numbered e.axioms e.signature.roles is.signature.roles e.roles is.role_numbers
+
 pub frozen-once : (e : Frozen) → IsFrozen e → (k : Kind) → StandOnce (names_by k e)
-frozen-once e is Class = subst StandOnce (sym is.class_numbers) (increasing-once e.signature.classes is.signature.classes)
-frozen-once e is Role = subst StandOnce (sym is.role_numbers) (increasing-once e.signature.roles is.signature.roles)
+frozen-once e is k = numbered-once (signed_by k e.signature) (names_by k e) (frozen-numbered e is k)
 
 pub frozen-has : (e : Frozen) → IsFrozen e → (k : Kind) (name : ℕ) → Contains (signed_by k e.signature) name → Contains (names_by k e) name
-frozen-has e is Class name c = subst (λ names. Contains names name) (sym is.class_numbers) c
-frozen-has e is Role name c = subst (λ names. Contains names name) (sym is.role_numbers) c
+frozen-has e is k name c =
+    let n = (frozen-numbered e is k).each name c in
+    has_contains (names_by k e) name n.0 n.1
