@@ -1,8 +1,8 @@
 -- The parent of a place: of the leaders of classes above it the first that is lowest, found by rounds.
-use Rattle.std.proofs.Common.{false, eqb, true≢false, ◌≡◌, ℕ, ◌+◌, ◌<◌, ◌≤◌, ◌⊎◌, inl, inr, List, [], ◌∷◌, ◌++◌, length, get_or, Option, Some, None, MatchOption, min, refl, sym, subst, ◌∙◌, arith}
+use Rattle.std.proofs.Common.{◌≡◌, ℕ, ◌+◌, ◌<◌, ◌≤◌, ◌⊎◌, inl, inr, List, [], ◌∷◌, ◌++◌, length, get_or, Option, Some, None, MatchOption, min, refl, sym, subst, ◌∙◌, arith}
 use Rattle.std.specs.List.{All, Contains}
 use Rattle.std.specs.List.Sorted.{IsStrictlyIncreasing}
-use Rattle.std.proofs.lemmas.Bool.{cases_lt, cases_eq, eq-eqb}
+use Rattle.std.proofs.lemmas.Bool.{cases_lt, cases_eq}
 use Rattle.std.proofs.lemmas.List.{get_or_default}
 use Rattle.std.proofs.lemmas.List.Elements.{Contains-append_left, Contains-append_right, Contains-append_cases, Contains-get_or}
 use Rattle.std.proofs.lemmas.List.Kept.{AllPairs-from_increasing}
@@ -12,6 +12,7 @@ use Rattle.dl_reach.proofs.Chains.{Chain-refl, Chain-trans}
 use Rattle.dl_numbers.specs.DepthFirst.{AreExactly, IsLeastAbove, IsParent}
 use Rattle.dl_numbers.specs.Places.{places, Reaches, IsAbove, IsLeaderAbove, IsBeside, IsLowest, IsFirstLowest, AreLeaders}
 use Rattle.dl_numbers.proofs.ListLemmas.{ascending_distinct, no_more}
+use Rattle.dl_numbers.proofs.NumberLemmas.{rises}
 use Rattle.dl_numbers.proofs.OrderLemmas.{chain_decided}
 use Rattle.dl_numbers.proofs.PlaceLemmas.{in_places, leader_within, rises_more, same_leader}
 
@@ -31,11 +32,8 @@ module _ (order : Digraph) where
     pub none_below : (k : ℕ) → k < i → IsAbove order b (get_or left k 0) → ⊥
 
   module _ (left : List ℕ) (few : All (λ other. other < order.nodes) left) where
-    pub low_start : eqb (length left) 0 ≡ false → IsLowSoFar left 0 (get_or left 0 0)
-    low_start e = elim (cases_lt 0 (length left)) [
-      | inl some ↦ record { within = few 0 0 some; among = Contains-get_or left 0 0 some; none_below = λ k h. absurd (omega (arith, h)) }
-      | inr none ↦ absurd (true≢false (sym (eq-eqb (length left) 0 (omega (arith, none))) ∙ e))
-    ]
+    pub low_start : 0 < length left → IsLowSoFar left 0 (get_or left 0 0)
+    low_start some = record { within = few 0 0 some; among = Contains-get_or left 0 0 some; none_below = λ k h. absurd (omega (arith, h)) }
 
     -- it stays, or the next one is taken, which it is above
     pub low_stays : (i b : ℕ) → IsLowSoFar left i b → (IsAbove order b (get_or left i 0) → ⊥) → IsLowSoFar left (i + 1) b
@@ -236,12 +234,18 @@ module _ (order : Digraph) where
     left_within few left one first so_far s = subst (All (λ other. other < order.nodes)) (sym s)
         (λ k d h. All-Contains (λ other. other < order.nodes) above (get_or left k d) few (so_far.part.among (get_or left k d) (Contains-get_or left k d h)))
 
-    pub search_end : (left : List ℕ) (first : ℕ) → IsSearched left first → length left ≡ 0 → IsFirstLowest order above first
-    search_end left first so_far e = record {
+    pub search_end : (left : List ℕ) (first : ℕ) → IsSearched left first → ((0 < length left) × (get_or left 0 0 < first) → ⊥) → IsFirstLowest order above first
+    search_end left first so_far never = record {
       among = so_far.among;
       lowest = so_far.lowest;
       first = λ c h is. elim (so_far.rest c h is) [
-        | inl there ↦ absurd (let k = there.1 in omega (arith, k, e))
+        | inl there ↦ elim (cases_lt c first) [
+          | inl before ↦
+              let here = get_or_default left there.0 0 c there.1 ∙ there.2 in
+              let least = rises left so_far.part.ascending 0 there.0 (omega arith) there.1 in
+              absurd (never ((let k = there.1 in omega (arith, k)), omega (arith, before, here, least)))
+          | inr behind ↦ behind
+        ]
         | inr le ↦ le
       ];
     }

@@ -1,5 +1,5 @@
 // Classes of places that chains connect, and the parent of each.
-ghost use Rattle.std.specs.Prelude.{◌≡◌, ◌<◌, ◌↔◌, ℕ, length, All, Contains, IfOk, IsTrue, MatchOption};
+ghost use Rattle.std.specs.Prelude.{◌≡◌, ◌<◌, ◌↔◌, ℕ, length, get_or, All, Contains, IfOk, IsTrue, MatchOption};
 ghost use Rattle.std.specs.List.Sorted.{IsStrictlyIncreasing};
 ghost use Rattle.dl_numbers.specs.DepthFirst.{AreExactly, IsLeast, IsParent};
 ghost use Rattle.dl_numbers.specs.Places.{places, Reaches, IsAbove, IsLeaderAbove, IsBeside, IsLowest, IsFirstLowest, AreLeaders, AreParents};
@@ -71,8 +71,9 @@ fn above(alloc: Global, order: &Closure, leaders: &[u32], place: u32) -> Result<
     Ok(found)
 }
 
-/// The first of some places that is strictly above none of them. Each round finds one that is so, and leaves out what is
-/// above it: a chain takes one round, in whatever order its places are.
+/// The first of some places that is strictly above none of them. Each round finds one that is so and leaves out what is
+/// above it, until nothing that is left comes before what was found. So a chain takes one round, in whatever order its
+/// places are. It fails only for want of memory.
 fn first_lowest(
     alloc: Global,
     order: &Closure,
@@ -86,34 +87,40 @@ fn first_lowest(
         ((b : ℕ) → Contains above.now b → IsLowest order.now above.now b → ⊥)
         (λ b. IsFirstLowest order.now above.now b)) }
 {
-    let Some(mut first) = one_lowest(order, leaders, above) else {
+    if above.is_empty() {
         return Ok(None);
-    };
+    }
+    let mut first = one_lowest(order, leaders, above);
     let mut left = without(alloc, order, leaders, above, first)?;
-    while let Some(lowest) = one_lowest(order, leaders, &left) {
+    while begins_before(&left, first) {
+        let lowest = one_lowest(order, leaders, &left);
         first = first.min(lowest);
         left = without(alloc, order, leaders, &left, lowest)?;
     }
     Ok(Some(first))
 }
 
+/// Whether there are places, and the first of them comes before another place.
+fn begins_before(places: &[u32], place: u32) -> bool
+    ensures { IsTrue result ↔ ((0 < length places.now) × (get_or places.now 0 0 < place)) }
+{
+    !places.is_empty() && places[0] < place
+}
+
 /// Of some places one that is strictly above none of them.
-fn one_lowest(order: &Closure, leaders: &[u32], left: &[u32]) -> Option<u32>
+fn one_lowest(order: &Closure, leaders: &[u32], left: &[u32]) -> u32
     requires leaders { AreLeaders order.now leaders.now }
     requires within { All (λ other. other < order.now.nodes) left.now }
-    ensures { MatchOption result (length left.now ≡ 0)
-        (λ b. Contains left.now b × IsLowest order.now left.now b) }
+    requires some { 0 < length left.now }
+    ensures { Contains left.now result × IsLowest order.now left.now result }
 {
-    if left.is_empty() {
-        return None;
-    }
     let mut lowest = left[0];
     for place in left {
         if is_above(order, leaders, lowest, *place) {
             lowest = *place;
         }
     }
-    Some(lowest)
+    lowest
 }
 
 /// Those of some places, ascending, that are neither the one nor strictly above it.

@@ -4,7 +4,7 @@ use Rattle.dl_numbers.proofs.classes.one_lowest.Goals as goal
 use Rattle.dl_numbers.proofs.classes.one_lowest.Goals.{then-is_above, else-is_above}
 
 pub loop-place-init : goal.loop-place-init
-loop-place-init c = low_start c.args.order.now c.args.left.now c.requires.within (sym c.is_empty.ensures ∙ c.if-is_empty.false)
+loop-place-init c = low_start c.args.order.now c.args.left.now c.requires.within c.requires.some
 
 pub loop-place-preserved : goal.loop-place-preserved
 loop-place-preserved c =
