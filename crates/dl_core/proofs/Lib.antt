@@ -9,6 +9,7 @@ pub mod CommitKeepLemmas
 pub mod RunLemmas
 pub mod ReadLemmas
 pub mod RuleLemmas
+pub mod ListedLemmas
 pub mod ShardLemmas
 pub mod HeldLemmas
 pub mod LookLemmas

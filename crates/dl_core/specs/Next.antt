@@ -74,11 +74,6 @@ pub record GoesByRule (numbering : Numbering) : Type 0 where
   pub roles : (axioms : List Axiom) (signature : Signature) → IsByRule signature.roles
       (λ p q. RoleBelow axioms (named p) (named q)) (numbering Role axioms signature)
 
--- a numbering in name order
-abbrev pub by_name : Numbering
-by_name Class axioms signature = signature.classes
-by_name Role axioms signature = signature.roles
-
 -- the facts of the rows that are visible at a version, as a set
 abbrev pub visible_facts : List Epoch → List Row → ℕ → List Fact
 visible_facts es rows v = with_items fact_cmp (filter_map (fact_of es) (filter (visible v) rows)) []

@@ -1,3 +1,4 @@
 pub mod OpenLemmas
 pub mod InUseLemmas
 pub mod ScratchLemmas
+pub mod ExampleLemmas

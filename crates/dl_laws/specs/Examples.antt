@@ -10,7 +10,7 @@ use Rattle.dl_row.specs.declared.row.Row.{Row}
 use Rattle.dl_row.specs.declared.row.Kind.TheVariants as kind
 use Rattle.dl_core.specs.History.{Load}
 use Rattle.dl_core.specs.Root.{Root}
-use Rattle.dl_core.specs.Next.{by_name, next, epoch_from}
+use Rattle.dl_core.specs.Next.{Numbering, next}
 use Rattle.dl_event.specs.declared.event.Item.TheVariants as item
 use Rattle.dl_event.specs.declared.event.Edit.{Edit}
 use Rattle.dl_event.specs.declared.event.Event.{Event}
@@ -18,9 +18,10 @@ use Rattle.dl_event.specs.declared.event.Event.TheVariants.{Commit, Pin, Unpin, 
 use Rattle.dl_event.specs.declared.reply.Reply.{Reply}
 
 -- the replies to some events of stream 1
-abbrev pub replies : Root → List Event → List Reply
-replies root [] = []
-replies root (e ∷ events) = (next by_name root 1 e).1 ∷ replies (next by_name root 1 e).0 events
+abbrev pub replies : Numbering → Root → List Event → List Reply
+replies numbering root [] = []
+replies numbering root (e ∷ events) =
+    (next numbering root 1 e).1 ∷ replies numbering (next numbering root 1 e).0 events
 
 -- the classes A and B, and the individual a
 abbrev pub class_a : ℕ
@@ -116,7 +117,15 @@ twice_a =
     record {
       version = 1;
       older = [];
-      current = epoch_from by_name 1 1 [] only_a_fact.signature;
+      current =
+          record {
+            id = 1;
+            first = 1;
+            axioms = [];
+            signature = only_a_fact.signature;
+            classes = class_a ∷ [];
+            roles = [];
+          };
       pins = [];
       shards = 1;
       rows = row_of_a 1 ∷ row_of_a 1 ∷ [];

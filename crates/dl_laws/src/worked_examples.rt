@@ -2,7 +2,7 @@
 ghost use Rattle.std.specs.Prelude.{◌≡◌, List, [], ◌∷◌};
 ghost use Rattle.dl_core.specs.History.{Load, Entry};
 ghost use Rattle.dl_core.specs.Root.{StandsFor};
-ghost use Rattle.dl_core.specs.Next.{GoesByRule, by_name, loaded};
+ghost use Rattle.dl_core.specs.Next.{Numbering, IsNumbering, loaded};
 ghost use Rattle.dl_laws.specs.Examples.{replies, a_is_an_a, only_a_fact, pin_again, remove_and_add};
 ghost use Rattle.dl_laws.specs.Examples.{refused_events, class_a, row_of_a, twice_a};
 ghost use Rattle.dl_laws.specs.Examples.{migrate_and_reclaim, pin_and_sweep, no_such_shard};
@@ -10,13 +10,15 @@ ghost use Rattle.dl_event.specs.declared.reply.Reply.TheVariants.{Committed, Pin
 ghost use Rattle.dl_event.specs.declared.reply.Reply.TheVariants.{Looked, Refused};
 ghost use Rattle.dl_event.specs.declared.reply.Refusal.TheVariants.{NoPin, PinOpen, NoShard};
 
-/// The replies to a stream's events, numbered in name order.
+/// The replies to a stream's events, whichever numbers the names have.
 pub fn reply_examples()
     // A stream pins, changes the ontology, and pins anew.
-    ensures pin_again { replies (loaded by_name a_is_an_a) pin_again ≡
+    ensures pin_again { (numbering : Numbering) → IsNumbering numbering
+        → replies numbering (loaded numbering a_is_an_a) pin_again ≡
         Pinned 1 ∷ Committed 2 2 ∷ Unpinned 1 ∷ Pinned 2 ∷ [] }
     // A fact removed and added in one commit keeps its row; in two commits it gets another.
-    ensures remove_and_add { replies (loaded by_name only_a_fact) remove_and_add ≡
+    ensures remove_and_add { (numbering : Numbering) → IsNumbering numbering
+        → replies numbering (loaded numbering only_a_fact) remove_and_add ≡
         Committed 2 1
         ∷ Looked (record {
           version = 2;
@@ -43,24 +45,27 @@ pub fn reply_examples()
         })
         ∷ [] }
     // A stream without a pin, and with one.
-    ensures refused { replies (loaded by_name only_a_fact) refused_events ≡
+    ensures refused { (numbering : Numbering) → IsNumbering numbering
+        → replies numbering (loaded numbering only_a_fact) refused_events ≡
         Refused NoPin ∷ Pinned 1 ∷ Refused (PinOpen 1) ∷ [] }
 {}
 
-/// The replies to maintenance.
+/// The replies to maintenance, whichever numbers the names have.
 pub fn maintenance_examples()
     // The pinned version needs the first epoch, although no row carries it any more.
-    ensures reclaim { replies (loaded by_name a_is_an_a) migrate_and_reclaim ≡
+    ensures reclaim { (numbering : Numbering) → IsNumbering numbering
+        → replies numbering (loaded numbering a_is_an_a) migrate_and_reclaim ≡
         Pinned 1 ∷ Committed 2 2 ∷ Migrated 1 0 ∷ Reclaimed [] ∷ Unpinned 1 ∷ Reclaimed (1 ∷ []) ∷ Reclaimed [] ∷ [] }
     // The horizon is the pinned version, and then the current one.
-    ensures sweep { replies (loaded by_name only_a_fact) pin_and_sweep ≡
+    ensures sweep { (numbering : Numbering) → IsNumbering numbering
+        → replies numbering (loaded numbering only_a_fact) pin_and_sweep ≡
         Pinned 1 ∷ Committed 2 1 ∷ Swept 0 0 ∷ Unpinned 1 ∷ Swept 1 0 ∷ [] }
-    ensures no_shard { replies (loaded by_name only_a_fact) no_such_shard ≡
+    ensures no_shard { (numbering : Numbering) → IsNumbering numbering
+        → replies numbering (loaded numbering only_a_fact) no_such_shard ≡
         Refused (NoShard 2) ∷ Refused (NoShard 9) ∷ [] }
 {}
 
-/// A root that has a row twice stands for no history, and name order goes by the rule.
+/// A root that has a row twice stands for no history.
 pub fn root_examples()
     ensures twice { (l : Load) (history : List Entry) → StandsFor l history twice_a → ⊥ }
-    ensures by_name { GoesByRule by_name }
 {}
