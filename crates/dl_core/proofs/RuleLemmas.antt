@@ -1,5 +1,5 @@
 -- The rule of numbers, as far as the core rests on it: it tells one list, which has each name once, and there is one
--- for the names of every signature, under any axioms. No other file opens it.
+-- for the names of every signature, under any axioms. It rests on what dl_numbers says of the rule.
 use Rattle.std.proofs.Common.{◌≡◌, ℕ, ◌+◌, ◌≤◌, ◌↔◌, Bool, true, false, cond, List, [], ◌∷◌, refl, sym, ap, ◌∙◌, true≢false, arith}
 use Rattle.std.specs.Ordering.{nat_cmp, is_eq}
 use Rattle.std.specs.List.{Contains}
@@ -13,13 +13,8 @@ use Rattle.dl_terms.proofs.OrderLemmas.{numbers_linear}
 use Rattle.dl_terms.proofs.BelowLemmas.{RoleBelow-refl, RoleBelow-trans, ConceptBelow-refl, ConceptBelow-trans}
 use Rattle.dl_hier.proofs.DecidedLemmas.{Decided, role_decided, concept_decided}
 use Rattle.dl_numbers.specs.Rule.{IsByRule}
-use Rattle.dl_numbers.specs.DepthFirst.{IsDepthFirst}
 use Rattle.dl_numbers.proofs.ListLemmas.{IsDistinct}
-use Rattle.dl_numbers.proofs.TestLemmas.{Tells}
-use Rattle.dl_numbers.proofs.UnderLemmas.{depth_first_one, depth_first_distinct, numbered_under, under_named}
-use Rattle.dl_numbers.proofs.DepthFirstLemmas.{numbers_exist, all_numbered}
-use Rattle.dl_numbers.proofs.LawLemmas.{is_so, so_tells}
-use Rattle.dl_numbers.proofs.RuleLemmas.{depth_first_members}
+use Rattle.dl_numbers.proofs.ByRuleLemmas.{rule_is_one, rule_members, rule_distinct, rule_names, numbers_exist}
 use Rattle.dl_row.specs.Lists.{count}
 use Rattle.dl_row.specs.declared.row.Kind.TheVariants as kind
 use Rattle.dl_row.proofs.CountLemmas.{same_is}
@@ -63,10 +58,6 @@ distinct_once xs once = record { at_most = at_most xs once }
 
 -- ---- the rule
 
-pub rule_is_one : (names : List ℕ) (Below : ℕ → ℕ → Type 0) (one two : List ℕ) → IsByRule names Below one
-    → IsByRule names Below two → one ≡ two
-rule_is_one names Below = depth_first_one names Below
-
 -- for an order that is decided, over names in any order: the rule speaks of the set of them
 module _ (names : List ℕ) (Below : ℕ → ℕ → Type 0) (same : (a : ℕ) → Below a a)
     (through : (a b c : ℕ) → Below a b → Below b c → Below a c) (decided : (a b : ℕ) → Decided (Below a b)) where
@@ -81,34 +72,25 @@ module _ (names : List ℕ) (Below : ℕ → ℕ → Type 0) (same : (a : ℕ) �
   unfolding set
   set_names = (set_exists numbers_linear names).members
 
-  test : ℕ → ℕ → Bool
-  test a b = is_so (decided a b)
-
-  tells : (a b : ℕ) → Tells (test a b) (Below a b)
-  unfolding test
-  tells a b = so_tells (Below a b) (decided a b)
-
-  over_set : (numbered : List ℕ) → IsByRule names Below numbered → IsDepthFirst set Below numbered
-  over_set = depth_first_members names set Below (λ n. ((set_names n).1, (set_names n).0))
+  over_set : (numbered : List ℕ) → IsByRule names Below numbered → IsByRule set Below numbered
+  over_set = rule_members names set Below (λ n. ((set_names n).1, (set_names n).0))
 
   numbered_names : (numbered : List ℕ) → IsByRule names Below numbered → (n : ℕ) → Contains numbered n ↔ Contains names n
   numbered_names numbered is n =
-      let order = over_set numbered is in (
-        λ c. let u = numbered_under set Below order.roots numbered order.order n c in (set_names n).0 (under_named set Below u.0 n u.2),
-        λ c. all_numbered set set_up Below (λ a h. same a) through test tells numbered order n ((set_names n).1 c),
-      )
+      let found = rule_names set set_up Below same through decided numbered (over_set numbered is) n in
+      ((λ c. (set_names n).0 (found.0 c)), (λ c. found.1 ((set_names n).1 c)))
 
   pub rule_has : (numbered : List ℕ) → IsByRule names Below numbered → (name : ℕ) → has nat_cmp numbered name ≡ has nat_cmp names name
   rule_has numbered is = has_same numbered names (numbered_names numbered is)
 
   pub rule_once : (numbered : List ℕ) → IsByRule names Below numbered → IsOnce nat_cmp numbered
   rule_once numbered is =
-      distinct_once numbered (depth_first_distinct set Below through (λ a h. same a) numbered (over_set numbered is))
+      distinct_once numbered (rule_distinct set set_up Below same through decided numbered (over_set numbered is))
 
-  pub rule_numbers : (numbered : List ℕ) × IsByRule names Below numbered
-  rule_numbers =
-      let found = numbers_exist set set_up Below (λ a h. same a) through test tells in
-      (found.0, depth_first_members set names Below set_names found.0 found.1)
+  numbers_of : (numbered : List ℕ) × IsByRule names Below numbered
+  numbers_of =
+      let found = numbers_exist set set_up Below same through decided in
+      (found.0, rule_members set names Below set_names found.0 found.1)
 
 -- ---- the orders of classes and of roles
 
@@ -144,7 +126,7 @@ module _ (axioms : List Axiom) (names : List ℕ) where
   class_once = rule_once names ClassBelow class_same class_through class_decided
 
   class_numbers : (numbered : List ℕ) × IsByRule names ClassBelow numbered
-  class_numbers = rule_numbers names ClassBelow class_same class_through class_decided
+  class_numbers = numbers_of names ClassBelow class_same class_through class_decided
 
   role_has : (numbered : List ℕ) → IsByRule names NamedBelow numbered → (name : ℕ) → has nat_cmp numbered name ≡ has nat_cmp names name
   role_has = rule_has names NamedBelow named_same named_through named_decided
@@ -153,7 +135,7 @@ module _ (axioms : List Axiom) (names : List ℕ) where
   role_once = rule_once names NamedBelow named_same named_through named_decided
 
   role_numbers : (numbered : List ℕ) × IsByRule names NamedBelow numbered
-  role_numbers = rule_numbers names NamedBelow named_same named_through named_decided
+  role_numbers = numbers_of names NamedBelow named_same named_through named_decided
 
 -- ---- the numbers of an epoch
 

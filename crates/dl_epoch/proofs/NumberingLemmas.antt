@@ -13,7 +13,7 @@ use Rattle.dl_hier.proofs.DecidedLemmas.{role_decided, concept_decided}
 use Rattle.dl_numbers.specs.Rule.{IsByRule}
 use Rattle.dl_numbers.specs.Runs.{AreNumbered, IsForest, HasOneInterval}
 use Rattle.dl_epoch.proofs.EpochLemmas.{has_contains}
-use Rattle.dl_numbers.proofs.ByRuleLemmas.{rule_exists, rule_numbers, rule_interval}
+use Rattle.dl_numbers.proofs.ByRuleLemmas.{numbers_exist, rule_numbers, rule_interval}
 
 module _ (axioms : List Axiom) where
   -- which class, and which role, is below which
@@ -25,7 +25,7 @@ module _ (axioms : List Axiom) where
 
   module _ (names : List ℕ) (up : IsStrictlyIncreasing names) where
     pub classes_exist : (numbered : List ℕ) × IsByRule names IsClassBelow numbered
-    classes_exist = rule_exists names up IsClassBelow (λ a. empty) (λ a b c. Chain-trans) (λ a b. concept_decided axioms (Class a) (Class b))
+    classes_exist = numbers_exist names up IsClassBelow (λ a. empty) (λ a b c. Chain-trans) (λ a b. concept_decided axioms (Class a) (Class b))
 
     pub classes_numbered : (numbered : List ℕ) → IsByRule names IsClassBelow numbered → AreNumbered names numbered
     classes_numbered = rule_numbers names up IsClassBelow (λ a. empty) (λ a b c. Chain-trans) (λ a b. concept_decided axioms (Class a) (Class b))
@@ -35,7 +35,7 @@ module _ (axioms : List Axiom) where
     class_interval = rule_interval names up IsClassBelow (λ a. empty) (λ a b c. Chain-trans) (λ a b. concept_decided axioms (Class a) (Class b))
 
     pub roles_exist : (numbered : List ℕ) × IsByRule names IsRoleBelow numbered
-    roles_exist = rule_exists names up IsRoleBelow (λ a. empty) (λ a b c. Chain-trans) (λ a b. role_decided axioms (named a) (named b))
+    roles_exist = numbers_exist names up IsRoleBelow (λ a. empty) (λ a b c. Chain-trans) (λ a b. role_decided axioms (named a) (named b))
 
     pub roles_numbered : (numbered : List ℕ) → IsByRule names IsRoleBelow numbered → AreNumbered names numbered
     roles_numbered = rule_numbers names up IsRoleBelow (λ a. empty) (λ a b c. Chain-trans) (λ a b. role_decided axioms (named a) (named b))

@@ -14,8 +14,19 @@ use Rattle.dl_numbers.proofs.OrderLemmas.{IsDecided}
 use Rattle.dl_numbers.proofs.LawLemmas.{is_so, so_tells}
 use Rattle.dl_numbers.proofs.DepthFirstLemmas as depth_first
 use Rattle.dl_numbers.proofs.NameLemmas.{below_at}
-use Rattle.dl_numbers.proofs.RuleLemmas.{depth_first_agree}
+use Rattle.dl_numbers.proofs.ListLemmas.{IsDistinct}
+use Rattle.dl_numbers.proofs.UnderLemmas.{depth_first_one, depth_first_distinct, numbered_under, under_named}
+use Rattle.dl_numbers.proofs.RuleLemmas.{depth_first_agree, depth_first_members}
 use Rattle.dl_numbers.proofs.RunLemmas.{each_numbered, one_interval}
+
+-- the rule tells one list, and it looks at which names there are, not at how they are listed
+pub rule_is_one : (names : List ℕ) (Below : ℕ → ℕ → Type 0) (one two : List ℕ) → IsByRule names Below one
+    → IsByRule names Below two → one ≡ two
+rule_is_one names Below = depth_first_one names Below
+
+pub rule_members : (ns ms : List ℕ) (Below : ℕ → ℕ → Type 0) → ((n : ℕ) → Contains ns n ↔ Contains ms n) → (numbered : List ℕ)
+    → IsByRule ns Below numbered → IsByRule ms Below numbered
+rule_members = depth_first_members
 
 module _ (names : List ℕ) (up : IsStrictlyIncreasing names) (Below : ℕ → ℕ → Type 0) where
   -- ---- decided orders
@@ -29,11 +40,20 @@ module _ (names : List ℕ) (up : IsStrictlyIncreasing names) (Below : ℕ → �
     unfolding test
     tells a b = so_tells (Below a b) (decide a b)
 
-    pub rule_exists : (numbered : List ℕ) × IsByRule names Below numbered
-    rule_exists = depth_first.numbers_exist names up Below (λ a c. same a) through test tells
+    pub numbers_exist : (numbered : List ℕ) × IsByRule names Below numbered
+    numbers_exist = depth_first.numbers_exist names up Below (λ a c. same a) through test tells
 
     pub rule_numbers : (numbered : List ℕ) → IsByRule names Below numbered → AreNumbered names numbered
     rule_numbers = each_numbered names up Below (λ a c. same a) through test tells
+
+    pub rule_distinct : (numbered : List ℕ) → IsByRule names Below numbered → IsDistinct numbered
+    rule_distinct = depth_first_distinct names Below through (λ a c. same a)
+
+    pub rule_names : (numbered : List ℕ) → IsByRule names Below numbered → (n : ℕ) → Contains numbered n ↔ Contains names n
+    rule_names numbered is n = (
+      λ c. let u = numbered_under names Below is.roots numbered is.order n c in under_named names Below u.0 n u.2,
+      λ c. depth_first.all_numbered names up Below (λ a h. same a) through test tells numbered is n c,
+    )
 
     pub rule_interval : IsForest names Below → (numbered : List ℕ) → IsByRule names Below numbered
         → (name : ℕ) → Contains names name → HasOneInterval numbered (λ a. Below a name)
