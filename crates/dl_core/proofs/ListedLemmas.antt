@@ -1,10 +1,10 @@
 -- Loads of few names: a numbering gives each name once, in some order, and so one of few roots.
 use Rattle.std.proofs.Common.{◌≡◌, ℕ, ◌⊎◌, inl, inr, cond, List, [], ◌∷◌, map, refl, sym, ap, ap₂, subst, ◌∙◌, arith}
-use Rattle.std.specs.Ordering.{nat_cmp, is_eq}
+use Rattle.std.specs.Ordering.{nat_cmp}
 use Rattle.std.specs.List.{Contains}
 use Rattle.dl_terms.proofs.OrderLemmas.{numbers_linear}
 use Rattle.dl_terms.proofs.MemberLemmas.{Contains-nil, Contains-cons, Contains-first, Contains-later, Contains-one, Contains-two}
-use Rattle.dl_row.specs.Lists.{count, ordered}
+use Rattle.dl_row.specs.Lists.{ordered}
 use Rattle.dl_row.specs.Rows.{Epoch, row_cmp}
 use Rattle.dl_row.specs.declared.row.Kind.TheVariants as kind
 use Rattle.dl_row.proofs.CountLemmas.{same_itself}
@@ -123,9 +123,9 @@ module _ (numbering : Numbering) (is : IsNumbering numbering) (l : Load) (up : I
       (two_items a b classes numbered.classes_once (λ n c. Contains-two a b n (within names classes same n c))
       (all_of names classes same a (Contains-first a (b ∷ [])))
       (all_of names classes same b (Contains-later a b (b ∷ []) (Contains-first b []))) apart) [
-    | inl c ↦ loaded_is (a ∷ b ∷ []) [] c (no_roles roles) p
-    | inr c ↦ loaded_is (b ∷ a ∷ []) [] c (no_roles roles) q
-  ]
+        | inl c ↦ loaded_is (a ∷ b ∷ []) [] c (no_roles roles) p
+        | inr c ↦ loaded_is (b ∷ a ∷ []) [] c (no_roles roles) q
+      ]
     where
       names : List ℕ
       names = a ∷ b ∷ []

@@ -67,5 +67,5 @@ pub fn maintenance_examples()
 
 /// A root that has a row twice stands for no history.
 pub fn root_examples()
-    ensures twice { (l : Load) (history : List Entry) → StandsFor l history twice_a → ⊥ }
+    ensures { (l : Load) (history : List Entry) → StandsFor l history twice_a → ⊥ }
 {}
