@@ -107,7 +107,8 @@ impl Hier {
         ensures count { IfOk result (λ order. order.nodes ≡ length self.now.predicates.classes) }
         ensures below { IfOk result (λ order. (axioms : Items Axiom) → IsHierarchyOf self.now axioms
             → (i j : ℕ) → i < length self.now.predicates.classes → j < length self.now.predicates.classes
-            → Chain (IsEdge order) i j ↔ ConceptBelow axioms (Class (slice_index_or self.now.predicates.classes i 0))
+            → Chain (IsEdge order) i j
+            ↔ ConceptBelow axioms (Class (slice_index_or self.now.predicates.classes i 0))
             (Class (slice_index_or self.now.predicates.classes j 0))) }
     {
         self.basic_ways.among(alloc, 0, 1, self.nodes.class_count())
@@ -118,7 +119,8 @@ impl Hier {
         ensures count { IfOk result (λ order. order.nodes ≡ length self.now.predicates.properties) }
         ensures below { IfOk result (λ order. (axioms : Items Axiom) → IsHierarchyOf self.now axioms
             → (i j : ℕ) → i < length self.now.predicates.properties
-            → j < length self.now.predicates.properties → Chain (IsEdge order) i j ↔ RoleBelow axioms (named (slice_index_or self.now.predicates.properties i 0))
+            → j < length self.now.predicates.properties → Chain (IsEdge order) i j
+            ↔ RoleBelow axioms (named (slice_index_or self.now.predicates.properties i 0))
             (named (slice_index_or self.now.predicates.properties j 0))) }
     {
         let count = self.nodes.properties().len() as u32;
