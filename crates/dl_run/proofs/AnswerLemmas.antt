@@ -6,13 +6,15 @@ use Rattle.dl_terms.specs.Reply.{Reply, inconsistent, found, too_many}
 use Rattle.dl_terms.specs.declared.axiom.Axiom.{Axiom}
 use Rattle.dl_terms.specs.declared.query.Query.{Query}
 use Rattle.dl_terms.proofs.AnswerLemmas.{IsReply-unique}
+use Rattle.dl_event.specs.Answers.{reply_of}
+use Rattle.dl_event.specs.declared.answer.Answer.{Answer}
+use Rattle.dl_event.specs.declared.answer.Answer.TheVariants.{Found, Inconsistent}
 use Rattle.dl_triples.specs.declared.reading.Triples.{Triples}
 use Rattle.dl_query.specs.declared.fault.QueryFault.{QueryFault}
 use Rattle.dl_query.specs.declared.fault.QueryFault.TheVariants as query
 use Rattle.dl_query.specs.Queries.{IsValue, HasFault}
 use Rattle.dl_owl.specs.declared.document.Document.{Document}
 use Rattle.dl_names.specs.NameList.{Text}
-use Rattle.dl_terms.specs.declared.axiom.Fact.{Fact}
 use Rattle.dl_terms.specs.Queries.{IsWellFormed}
 use Rattle.dl_terms.specs.Renamed.{renamed_query}
 use Rattle.dl_run.specs.Answered.{shards, AreAsked, HasReply, IsRefused, AnswerPrints, AnswerOf, Gives, RepliesTo, status_of, text_of}
@@ -27,15 +29,13 @@ use Rattle.dl_run.specs.Ending.{Says}
 use Rattle.dl_run.specs.Ending.Says.{done, refused as stopped, read_fault, no_memory}
 use Rattle.dl_run.specs.Files.{IsFileStop}
 use Rattle.dl_run.specs.Input.{KnowledgeBase, IsFirstTooLong, AllFit, AreRead, IsNumbered}
-use Rattle.dl_run.specs.Output.{facts_line, answers_text, broken_text, inconsistent_text}
+use Rattle.dl_run.specs.Output.{facts_line, answer_text}
+use Rattle.dl_text.specs.AnswerText.{answers_text, inconsistent_text}
 use Rattle.dl_run.specs.Refusals.{refusal_text}
 use Rattle.dl_run.specs.Store.{IsWithinLimits}
 use Rattle.dl_run.specs.Wrong.{IsFirstWrong}
 use Rattle.dl_run.specs.Wrong.IsFirstWrong.{too_long, in_base, in_third, in_load}
 use Rattle.dl_run.specs.declared.answers.Answers.{Answers}
-use Rattle.dl_run.specs.declared.answers.Told.{Told}
-use Rattle.dl_run.specs.declared.answers.Told.TheVariants.{Found, Inconsistent}
-use Rattle.dl_run.specs.Told.{told_text, Tells}
 use Rattle.dl_run.specs.declared.status.Status.{Status}
 use Rattle.dl_run.specs.declared.status.Status.TheVariants.{Done}
 use Rattle.dl_run.specs.declared.stop.InputFile.{InputFile}
@@ -124,8 +124,8 @@ one_output (answers input served reply) (breaks again also more) = absurd (broke
 one_output (breaks {base = base} {broken = a} input served reply) (breaks {base = other} {broken = b} again also more) =
     let same = (AreInput-unique query_determined input again).0 in (
       refl,
-      ap (λ (k : KnowledgeBase). facts_line (length k.load.facts) k.skipped ++ inconsistent_text (broken_text k.names a)) same
-          ∙ ap (λ n. facts_line (length other.load.facts) other.skipped ++ inconsistent_text (broken_text other.names n))
+      ap (λ (k : KnowledgeBase). facts_line (length k.load.facts) k.skipped ++ inconsistent_text k.names a) same
+          ∙ ap (λ n. facts_line (length other.load.facts) other.skipped ++ inconsistent_text other.names n)
           (same_broken input again reply more),
     )
 one_output (answers input served reply) (refused r) = absurd (refused_or_answered r input served reply)
@@ -136,14 +136,12 @@ one_output (answers {base = base} {tuples = tuples} input served reply) (answers
           ∙ ap (λ t. facts_line (length other.load.facts) other.skipped ++ answers_text other.names t) (same_tuples input again reply more),
     )
 
--- what is told is printed
-prints_told : {x y z : List ℕ} {limit : ℕ} (base : KnowledgeBase) (asked : Query) → AreAsked x y z base asked → IsWithinLimits base.load
-    → (told : Told) → Tells base.names (HasReply base asked limit) told
-    → AnswerPrints x y z limit Done (facts_line (length base.load.facts) base.skipped ++ told_text base.names told)
-prints_told base asked input limits (Found tuples) reply = answers input limits reply
-prints_told {x} {y} {z} {limit} base asked input limits (Inconsistent text) (broken, reply, is) =
-    subst (λ t. AnswerPrints x y z limit Done (facts_line (length base.load.facts) base.skipped ++ inconsistent_text t)) (sym is)
-    (breaks input limits reply)
+-- an answer is printed
+prints_answer : {x y z : List ℕ} {limit : ℕ} (base : KnowledgeBase) (asked : Query) → AreAsked x y z base asked → IsWithinLimits base.load
+    → (answer : Answer) → HasReply base asked limit (reply_of answer)
+    → AnswerPrints x y z limit Done (facts_line (length base.load.facts) base.skipped ++ answer_text base.names answer)
+prints_answer base asked input limits (Found version tuples) reply = answers input limits reply
+prints_answer base asked input limits (Inconsistent version broken) reply = breaks input limits reply
 
 module _ (o d q : List ℕ) (limit : ℕ) (told : Option (List ℕ → List ℕ)) (Rose : Type 0) where
   -- a file that is too long, a fault of reading, or want of memory
@@ -177,7 +175,7 @@ module _ (o d q : List ℕ) (limit : ℕ) (told : Option (List ℕ → List ℕ)
       pub says_replies : (output : Result Answers Stop) → RepliesTo base asked limit output
           → Says (AnswerOf o d q limit) told Rose (status_of output) (text_of output)
       says_replies (Ok given) replies =
-          done (if_some told (λ file_of there. rw (replies.2, replies.3, replies.4) (prints_told base asked there replies.0 given.told replies.1)) input_told)
+          done (if_some told (λ file_of there. rw (replies.2, replies.3, replies.4) (prints_answer base asked there replies.0 given.answer replies.1)) input_told)
       says_replies (Err (stops.Refused refusal)) (over_load passes) =
           stopped (if_some told (λ file_of there. refused (wrong (in_load there passes))) input_told)
       says_replies (Err (stops.Refused refusal)) (answers_over within reply) =

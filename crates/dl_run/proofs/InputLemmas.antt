@@ -1,5 +1,5 @@
 -- The files of an input give one at most, and what was read by places is one by numbers.
-use Rattle.std.proofs.Common.{◌≡◌, ◌↔◌, is_some, ℕ, ◌<◌, ◌≤◌, List, [], ◌∷◌, ◌++◌, length, map, flat_map, get_or, slice_index, slice_get, Option, Some, None, subst, ap, sym, ◌∙◌, refl, arith, true≢false}
+use Rattle.std.proofs.Common.{◌≡◌, ◌↔◌, is_some, ℕ, ◌<◌, ◌≤◌, List, [], ◌++◌, length, map, flat_map, get_or, slice_index, slice_get, Option, Some, None, subst, ap, sym, ◌∙◌, refl, arith, true≢false}
 use Rattle.std.specs.Ordering.{nat_cmp}
 use Rattle.std.specs.declared.cmp.Ordering.{Ordering}
 use Rattle.std.specs.List.{All}
@@ -27,7 +27,6 @@ use Rattle.dl_owl.proofs.TokenLists.{one_value}
 use Rattle.dl_triples.specs.Reading.{IsValue}
 use Rattle.dl_triples.proofs.PlaceLemmas.{read_grows}
 use Rattle.dl_triples.proofs.ValueLemmas.{one_value as one_data}
-use Rattle.dl_core.specs.History.{Load}
 use Rattle.dl_run.specs.Input.{KnowledgeBase, IsNumberOf, AreRead, IsNumbered, AreInput}
 use Rattle.dl_run.specs.Numbered.{ArePlaced}
 use Rattle.dl_run.specs.ThirdFile.{ThirdFile}

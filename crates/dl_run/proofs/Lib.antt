@@ -11,4 +11,3 @@ pub mod EndingLemmas
 pub mod FileLemmas
 pub mod AnswerLemmas
 pub mod ProgramLemmas
-pub mod ToldLemmas

@@ -1,14 +1,12 @@
 -- What other names keep of axioms and queries, and the names of certain answers.
-use Rattle.std.proofs.Common.{◌≡◌, ℕ, ◌<◌, ◌&&◌, not, List, [], ◌∷◌, ◌++◌, map, length, get_or, flat_map, filter, filter_map, nat_eq, Option, Some, None, IfSome, All, Contains, refl, sym, ap, ap₂, subst, ◌∙◌, inl, inr, arith}
-use Rattle.std.specs.List.{list_any, range_with_len}
-use Rattle.std.proofs.lemmas.List.{length-map}
-use Rattle.std.proofs.lemmas.List.Elements.{All-map, All-weaker, All-contains, Contains-get_or, Contains-append_left, Contains-append_right, Contains-append_cases}
+use Rattle.std.proofs.Common.{◌≡◌, ℕ, ◌<◌, List, ◌++◌, map, get_or, flat_map, filter_map, Option, Some, None, IfSome, All, Contains, refl, sym, ap, subst, ◌∙◌, inl, inr, arith}
+use Rattle.std.proofs.lemmas.List.Elements.{All-nil, All-map, All-weaker, All-contains, Contains-get_or, Contains-append_left, Contains-append_right, Contains-append_cases}
 use Rattle.dl_terms.specs.Auxiliaries.{HasNoAuxiliary}
 use Rattle.dl_terms.specs.NormalForm.{axiom_rows, as_negative, axiom_negatives, nothing_negative, negatives}
 use Rattle.dl_terms.specs.Occurring.{axiom_names, fact_names}
 use Rattle.dl_terms.specs.Order.{axiom_cmp}
 use Rattle.dl_terms.specs.Queries.{term_variables, atom_variables, body_variables, IsWellFormed}
-use Rattle.dl_terms.specs.Renamed.{renamed_axiom, renamed_term, renamed_atom, renamed_query}
+use Rattle.dl_terms.specs.Renamed.{renamed_axiom}
 use Rattle.dl_terms.specs.Sets.{IsSetOf}
 use Rattle.dl_terms.specs.Structure.{Element, individual, child, IsElement, HoldsAtName, HoldsAt, Joins}
 use Rattle.dl_terms.specs.Structure.HoldsAtName.{by_class, by_source, by_target}
@@ -32,11 +30,14 @@ use Rattle.dl_terms.specs.declared.query.Query.{Query}
 use Rattle.dl_terms.proofs.AuxiliaryLemmas.{renamed_axiom-named}
 use Rattle.dl_terms.proofs.MemberLemmas.{Contains-one, Contains-nil, Contains-middle}
 use Rattle.dl_terms.proofs.StructureLemmas.{individual-child}
-use Rattle.dl_hier.proofs.MemberLemmas.{Contains-map, Contains-map_of, Contains-flat_map, Contains-flat_map_of}
+use Rattle.dl_hier.proofs.MemberLemmas.{All-flat_map, Contains-map, Contains-map_of, Contains-flat_map, Contains-flat_map_of}
 use Rattle.dl_answer.proofs.NameLemmas.{at_individual}
-use Rattle.dl_names.specs.NameList.{Text}
-use Rattle.dl_run.specs.Told.{HasNamesBelow, Tells}
-use Rattle.dl_run.specs.declared.answers.Told.{Told}
+use Rattle.dl_event.specs.Answers.{reply_of}
+use Rattle.dl_event.specs.declared.answer.Answer.{Answer}
+use Rattle.dl_event.specs.declared.answer.Answer.TheVariants.{Found, Inconsistent}
+use Rattle.dl_text.specs.AnswerText.{broken_names}
+use Rattle.dl_text.specs.NameText.{AreBelow}
+use Rattle.dl_run.specs.Output.{answer_names}
 
 -- ---- other names
 
@@ -127,14 +128,6 @@ module _ (axioms : List Axiom) (facts : List Fact) (n : ℕ) (all : All (λ f. A
   reply_named q formed tuples (is_found broken certain few) k d h =
       certain_named q formed (get_or tuples k d) ((certain.exact (get_or tuples k d)).0 (Contains-get_or tuples k d h))
 
--- what is told of a reply has names of the facts
-pub told_named : (axioms : List Axiom) (facts : List Fact) (names : List Text) → All (λ f. All (λ name. name < length names) (fact_names f)) facts
-    → (nothing : Option ℕ) (limit : ℕ) (q : Query) → IsWellFormed q → (told : Told) → Tells names (IsReply axioms facts nothing q limit) told
-    → HasNamesBelow (length names) told
-told_named axioms facts names all nothing limit q formed told reply = λ tuples is.
-    reply_named axioms facts (length names) all q formed tuples.tuples
-    (subst (Tells names (IsReply axioms facts nothing q limit)) is reply)
-
 -- ---- names of a broken axiom
 
 module _ (axioms : List Axiom) (n : ℕ) (all : All (λ a. All (λ name. name < n) (axiom_names a)) axioms) where
@@ -165,3 +158,17 @@ module _ (axioms : List Axiom) (n : ℕ) (all : All (λ a. All (λ name. name < 
       beside_named nothing broken first.negative
       (subst (λ l. Contains l (broken, first.negative)) (sym first.is_there)
       (Contains-middle first.before first.after (broken, first.negative)))
+
+-- the names in an answer that is the reply are below the count of names, where those of axioms and facts are
+pub answer_named : (axioms : List Axiom) (facts : List Fact) (n : ℕ) → All (λ a. All (λ name. name < n) (axiom_names a)) axioms
+    → All (λ f. All (λ name. name < n) (fact_names f)) facts → (nothing : Option ℕ) (limit : ℕ) (q : Query) → IsWellFormed q
+    → (answer : Answer) → IsReply axioms facts nothing q limit (reply_of answer) → AreBelow n (answer_names answer)
+answer_named axioms facts n stated all nothing limit q formed (Found version tuples) reply =
+    All-flat_map (λ name. name < n) (AreBelow n) (λ tuple. tuple) (λ tuple named. named) tuples.tuples
+    (reply_named axioms facts n all q formed tuples.tuples reply)
+answer_named axioms facts n stated all nothing limit q formed (Inconsistent version broken) reply =
+    by broken (broken_named axioms n stated facts nothing q limit broken reply)
+  where
+    by : (broken : Option Axiom) → HasNames axioms n stated broken → AreBelow n (broken_names broken)
+    by (Some a) named = named
+    by None named = All-nil (λ name. name < n)

@@ -18,8 +18,8 @@ use Rattle.dl_core.proofs.RuleLemmas.{rule_exists, rule_is_numbering}
 use Rattle.dl_answer.specs.Replies as answer
 use Rattle.dl_event.specs.declared.answer.Answer.{Answer}
 use Rattle.dl_event.specs.declared.answer.AskFault.{AskFault}
-use Rattle.dl_run.specs.Answered.{shards, AnswersAsked, RepliesTo}
-use Rattle.dl_run.specs.Answered.IsUnanswered.{over_load}
+use Rattle.dl_run.specs.Answered.{shards, AnswersAsked, IsNoAnswer, IsUnanswered, RepliesTo}
+use Rattle.dl_run.specs.Answered.IsUnanswered.{over_load, over_limit}
 use Rattle.dl_run.specs.Input.{KnowledgeBase}
 use Rattle.dl_run.specs.Numbered.{base_of, IsMade}
 use Rattle.dl_run.specs.Store.{pinned_once, IsWithinLimits, IsLoadWrong, IsReaderOf, IsStopOf}
@@ -131,3 +131,10 @@ store_stops base asked limit stop r is stops = rw is (by stop stops)
     by (Refused refusal) wrong = over_load wrong
     by ReadFault wrong = absurd wrong
     by NoMemory wrong = tt
+
+-- nor is one where the answer doesn't come
+pub no_answer : (base : KnowledgeBase) (asked : Query) (limit : ℕ) (stop : Stop) → IsWithinLimits base.load → IsNoAnswer base asked limit stop
+    → RepliesTo base asked limit (Err stop)
+no_answer base asked limit (Refused refusal) within none = subst (IsUnanswered base asked limit) (sym none.0) (over_limit within none.1)
+no_answer base asked limit ReadFault within none = absurd none
+no_answer base asked limit NoMemory within none = tt

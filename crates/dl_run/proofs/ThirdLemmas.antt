@@ -1,9 +1,8 @@
 -- What the text of a third file says is determined.
-use Rattle.std.proofs.Common.{◌≡◌, ℕ, List, subst, ap, sym, ◌∙◌}
+use Rattle.std.proofs.Common.{◌≡◌, ℕ, List, ap}
 use Rattle.dl_names.specs.NameList.{Text}
 use Rattle.dl_terms.specs.declared.query.Query.{Query}
-use Rattle.dl_query.specs.declared.fault.QueryFault.{QueryFault}
-use Rattle.dl_query.specs.Queries.{IsValue, HasFault}
+use Rattle.dl_query.specs.Queries.{IsValue}
 use Rattle.dl_query.proofs.ResultLemmas.{value-one, fault-one, not-both}
 use Rattle.dl_run.specs.Stops.{stop_of_query}
 use Rattle.dl_run.specs.ThirdFile.{ThirdFile, HasQueryFault, query_file}

@@ -5,16 +5,17 @@ use Rattle.dl_terms.specs.Reply.{Reply, IsReply, inconsistent, found, too_many}
 use Rattle.dl_terms.specs.declared.axiom.Axiom.{Axiom}
 use Rattle.dl_terms.specs.declared.query.Query.{Query}
 use Rattle.dl_answer.specs.Replies as answer
+use Rattle.dl_event.specs.Answers.{reply_of}
 use Rattle.dl_event.specs.declared.answer.Answer.{Answer}
 use Rattle.dl_event.specs.declared.answer.AskFault.{AskFault}
+use Rattle.dl_text.specs.AnswerText.{answers_text, inconsistent_text}
 use Rattle.dl_run.specs.Input.{KnowledgeBase, AreInput}
 use Rattle.dl_run.specs.Numbered.{base_of, IsMade}
-use Rattle.dl_run.specs.Output.{facts_line, answers_text, broken_text, inconsistent_text}
+use Rattle.dl_run.specs.Output.{facts_line, answer_text}
 use Rattle.dl_run.specs.Refusals.{refusal_text}
 use Rattle.dl_run.specs.Store.{IsWithinLimits, IsLoadWrong}
 use Rattle.dl_run.specs.Texts.{read_fault_text, no_memory_text}
 use Rattle.dl_run.specs.ThirdFile.{query_file}
-use Rattle.dl_run.specs.Told.{told_text, Tells}
 use Rattle.dl_run.specs.Wrong.{IsFirstWrong}
 use Rattle.dl_run.specs.declared.answers.Answers.{Answers}
 use Rattle.dl_run.specs.declared.base.NumberedBase.{NumberedBase}
@@ -24,7 +25,6 @@ use Rattle.dl_run.specs.declared.stop.Refusal.{Refusal}
 use Rattle.dl_run.specs.declared.stop.Refusal.TheVariants.{TooMany}
 use Rattle.dl_run.specs.declared.stop.Stop.{Stop}
 use Rattle.dl_run.specs.declared.stop.Stop.TheVariants.{Refused, ReadFault, NoMemory}
-use Rattle.dl_run.specs.declared.answers.Told.{Told}
 
 -- in how many shards a load is asked
 abbrev pub shards : ℕ
@@ -53,7 +53,7 @@ pub data AnswerPrints (ontology facts query : List ℕ) (limit : ℕ) : Status �
   breaks : {base : KnowledgeBase} {asked : Query} {broken : Option Axiom} → AreAsked ontology facts query base asked
       → IsWithinLimits base.load → HasReply base asked limit (inconsistent broken)
       → AnswerPrints ontology facts query limit status.Done
-      (facts_line (length base.load.facts) base.skipped ++ inconsistent_text (broken_text base.names broken))
+      (facts_line (length base.load.facts) base.skipped ++ inconsistent_text base.names broken)
   answers : {base : KnowledgeBase} {asked : Query} {tuples : List (List ℕ)} → AreAsked ontology facts query base asked
       → IsWithinLimits base.load → HasReply base asked limit (found tuples)
       → AnswerPrints ontology facts query limit status.Done
@@ -77,12 +77,11 @@ Gives ontology facts query (Err NoMemory) = Unit {0}
 abbrev pub AnswersAsked : NumberedBase → Query → (limit : ℕ) → Result Answer AskFault → Type 0
 AnswersAsked base asked limit = answer.RepliesTo base.axioms base.facts base.nothing asked limit 1
 
--- what is told of a query of a knowledge base, that there are more answers than the limit, or want of memory
-abbrev pub AreTold : KnowledgeBase → Query → ℕ → Result Told Stop → Type 0
-AreTold base asked limit (Ok told) = Tells base.names (HasReply base asked limit) told
-AreTold base asked limit (Err (Refused refusal)) = (refusal ≡ TooMany limit) × HasReply base asked limit too_many
-AreTold base asked limit (Err ReadFault) = ⊥
-AreTold base asked limit (Err NoMemory) = Unit {0}
+-- why an answer to a query doesn't come: there are more than the limit, or there is no memory
+abbrev pub IsNoAnswer : KnowledgeBase → Query → ℕ → Stop → Type 0
+IsNoAnswer base asked limit (Refused refusal) = (refusal ≡ TooMany limit) × HasReply base asked limit too_many
+IsNoAnswer base asked limit ReadFault = ⊥
+IsNoAnswer base asked limit NoMemory = Unit {0}
 
 -- why a query of a knowledge base isn't answered: a limit that the load passes, or more answers than the limit
 pub data IsUnanswered (base : KnowledgeBase) (asked : Query) (limit : ℕ) : Refusal → Type 0 where
@@ -93,7 +92,7 @@ pub data IsUnanswered (base : KnowledgeBase) (asked : Query) (limit : ℕ) : Ref
 -- the answers to a query of a knowledge base or what is broken, why it isn't answered, or want of memory
 abbrev pub RepliesTo : KnowledgeBase → Query → ℕ → Result Answers Stop → Type 0
 RepliesTo base asked limit (Ok given) =
-    IsWithinLimits base.load × Tells base.names (HasReply base asked limit) given.told
+    IsWithinLimits base.load × HasReply base asked limit (reply_of given.answer)
     × (given.names ≡ base.names) × (given.facts ≡ length base.load.facts) × (given.skipped ≡ base.skipped)
 RepliesTo base asked limit (Err (Refused refusal)) = IsUnanswered base asked limit refusal
 RepliesTo base asked limit (Err ReadFault) = ⊥
@@ -108,7 +107,7 @@ status_of (Err NoMemory) = status.NoMemory
 
 -- the text of answers, or of a broken axiom
 abbrev pub text_of_answers : Answers → List ℕ
-text_of_answers given = facts_line given.facts given.skipped ++ told_text given.names given.told
+text_of_answers given = facts_line given.facts given.skipped ++ answer_text given.names given.answer
 
 -- the text of answers, or of what stands in their place
 abbrev pub text_of : Result Answers Stop → List ℕ

@@ -9,7 +9,6 @@ pub mod Store
 pub mod Wrong
 pub mod Files
 pub mod Output
-pub mod Told
 pub mod Defined
 pub mod Ending
 pub mod Answered

@@ -1,19 +1,17 @@
 // The command `answer`: its three files, the store that is asked, and what is written.
-ghost use Rattle.std.specs.Prelude.{◌≡◌, ◌≤◌, ◌<◌, ◌∷◌, [], ℕ, List, length, OnOk, OnErr, Ok, Err, IfOk, IfSome, string_bytes};
-ghost use Rattle.std.specs.List.{All, Contains};
+ghost use Rattle.std.specs.Prelude.{◌≡◌, ◌≤◌, ◌∷◌, [], ℕ, List, OnOk, OnErr, Err};
+ghost use Rattle.std.specs.List.{Contains};
 ghost use Rattle.dl_io.specs.Count.{HasRisen, NoneFalls};
 ghost use Rattle.dl_io.specs.Writing.{Gets, GetsPrefix};
-ghost use Rattle.dl_terms.specs.Occurring.{axiom_names};
 ghost use Rattle.dl_terms.specs.Queries.{IsWellFormed};
 ghost use Rattle.dl_terms.specs.declared.query.Query.{Query as Asked};
-ghost use Rattle.dl_run.specs.Answered.{shards, AnswerOf, Gives, AnswersAsked, AreTold, RepliesTo, status_of, text_of};
+ghost use Rattle.dl_run.specs.Answered.{shards, AnswerOf, Gives, AnswersAsked, IsNoAnswer, RepliesTo, status_of, text_of};
 ghost use Rattle.dl_run.specs.Ending.{Says, Printed, Ends};
 ghost use Rattle.dl_run.specs.Input.{AllFit};
 ghost use Rattle.dl_run.specs.Numbered.{base_of, IsMade};
-ghost use Rattle.dl_run.specs.Output.{broken_text};
 ghost use Rattle.dl_run.specs.declared.base.NumberedBase.{NumberedBase as Base};
 
-use crate::answers::{Answers, Told};
+use crate::answers::Answers;
 use crate::base::NumberedBase;
 use crate::files::read_file;
 use crate::input::{numbered, read_base};
@@ -22,12 +20,11 @@ use crate::status::Status;
 use crate::stop::{InputFile, Refusal, Stop};
 use crate::store::reader_of;
 use crate::words::AnswerWords;
-use dl_answer::{Answer, AskFault, ask};
+use dl_answer::{AskFault, ask};
 use dl_io::{Failed, GATHERED, GatheringSink, Library, Sink};
-use dl_names::{NameSet, Names};
-use dl_owl::axiom_text;
+use dl_names::NameSet;
 use dl_query::read_query;
-use dl_terms::{Axiom, NoMemory, Query};
+use dl_terms::Query;
 use std::alloc::Global;
 use std::mem::forget;
 
@@ -138,53 +135,14 @@ fn answers_for(
     ensures { RepliesTo (base_of shards base) query.now limit result }
 {
     let mut reads = reader_of(alloc, &base)?;
-    let answer = ask(alloc, &mut reads, query, limit, base.nothing);
-    let told = told_of(alloc, answer, &base, query, limit)?;
-    Ok(Answers {
-        names: base.names,
-        facts: base.facts.len(),
-        skipped: base.skipped,
-        told,
-    })
-}
-
-/// What is told of an answer, or why there is none.
-fn told_of(
-    alloc: Global,
-    answer: Result<Answer, AskFault>,
-    base: &NumberedBase,
-    query: &Query,
-    limit: u64,
-) -> Result<Told, Stop>
-    requires { AnswersAsked base.now query.now limit answer }
-    ensures { AreTold (base_of shards base.now) query.now limit result }
-{
-    match answer {
-        Ok(answer) => {
-            let told = told_answer(alloc, answer, base, query)?;
-            Ok(told)
-        }
+    match ask(alloc, &mut reads, query, limit, base.nothing) {
+        Ok(answer) => Ok(Answers {
+            names: base.names,
+            facts: base.facts.len(),
+            skipped: base.skipped,
+            answer,
+        }),
         Err(fault) => Err(stop_of(fault, limit)),
-    }
-}
-
-/// What is told of an answer: its tuples, or the text of the broken axiom.
-fn told_answer(
-    alloc: Global,
-    answer: Answer,
-    base: &NumberedBase,
-    query: &Query,
-) -> Result<Told, NoMemory>
-    requires { (limit : ℕ) × AnswersAsked base.now query.now limit (Ok answer) }
-    ensures { IfOk result (λ told. (limit : ℕ) → AnswersAsked base.now query.now limit (Ok answer) →
-        AreTold (base_of shards base.now) query.now limit (Ok told)) }
-{
-    match answer {
-        Answer::Found { tuples, .. } => Ok(Told::Found(tuples)),
-        Answer::Inconsistent { axiom, .. } => {
-            let text = broken_text(alloc, &axiom, &base.names)?;
-            Ok(Told::Inconsistent(text))
-        }
     }
 }
 
@@ -192,23 +150,12 @@ fn told_answer(
 fn stop_of(fault: AskFault, limit: u64) -> Stop
     requires { (base : Base) × (query : Asked) × AnswersAsked base query limit (Err fault) }
     ensures { (base : Base) (query : Asked) → AnswersAsked base query limit (Err fault) →
-        AreTold (base_of shards base) query limit (Err result) }
+        IsNoAnswer (base_of shards base) query limit result }
 {
     match fault {
         AskFault::TooMany { .. } => Stop::Refused(Refusal::TooMany { limit }),
         AskFault::NoPin => unreachable!(),
         AskFault::NoMemory => Stop::NoMemory,
-    }
-}
-
-/// The text of a broken axiom. None stands for `owl:Nothing`.
-fn broken_text(alloc: Global, broken: &Option<Axiom>, names: &Names) -> Result<String, NoMemory>
-    requires { IfSome broken.now (λ stated. All (λ name. name < length names.now) (axiom_names stated)) }
-    ensures { IfOk result (λ text. string_bytes text ≡ broken_text names.now broken.now) }
-{
-    match broken {
-        Some(stated) => axiom_text(alloc, stated, names),
-        None => Ok(String::from_str(alloc, "owl:Nothing")?),
     }
 }
 

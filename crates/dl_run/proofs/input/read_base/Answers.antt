@@ -1,4 +1,3 @@
-use Rattle.std.proofs.Common.{subst}
 use Rattle.std.proofs.lemmas.Result.{err_from_is_err_and}
 use Rattle.dl_terms.specs.Occurring.{axiom_names, fact_names}
 use Rattle.dl_run.proofs.InputLemmas.{placed_later, numbers_later, data_grows}
