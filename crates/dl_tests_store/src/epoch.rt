@@ -229,6 +229,15 @@ fn translates_below(alloc: Global, one: &Epoch, two: &Epoch) -> Result<bool, NoM
     Ok(have(&two.translate(alloc, &below)?, &TRANSLATED[0]))
 }
 
+/// What is below B in the first epoch, where A is below it: B has the number 1, and A 2.
+const BELOW_B: Translated = ((&[A, B], &[], &[]), &[(1, 2)], &[], &[]);
+
+/// Whether what is below B in the first epoch has one interval there.
+fn translates_own(alloc: Global, one: &Epoch) -> Result<bool, NoMemory> {
+    let below = one.hier().predicates_below(alloc, &[Basic::Class(B)])?;
+    Ok(have(&one.translate(alloc, &below)?, &BELOW_B))
+}
+
 /// Whether both epochs agree with the tables.
 fn agree(alloc: Global) -> Result<bool, NoMemory> {
     let Some(epochs) = both_epochs(alloc)? else {
@@ -245,7 +254,8 @@ fn agree(alloc: Global) -> Result<bool, NoMemory> {
             && are_named(&one.epoch, B, P)
             && are_named(&two.epoch, B, P)
             && translates(alloc, &two.epoch, &TRANSLATED)?
-            && translates_below(alloc, &one.epoch, &two.epoch)?,
+            && translates_below(alloc, &one.epoch, &two.epoch)?
+            && translates_own(alloc, &one.epoch)?,
     )
 }
 
