@@ -4,4 +4,5 @@ pub mod RowLemmas
 pub mod MergeLemmas
 pub mod SearchLemmas
 pub mod FindLemmas
+pub mod StepLemmas
 pub mod ScanLemmas

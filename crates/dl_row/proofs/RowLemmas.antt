@@ -1,5 +1,5 @@
 -- The order of rows: it is linear, and what its first three or five fields decide.
-use Rattle.std.proofs.Common.{◌≡◌, ℕ, ◌+◌, ◌<◌, Bool, true, false, not, ◌&&◌, ◌||◌, cond, ◌==◌, nat_le, nat_lt, [], ◌∷◌, refl, sym, ap, ap₂, ◌∙◌, true≢false, arith}
+use Rattle.std.proofs.Common.{◌≡◌, ℕ, ◌+◌, ◌<◌, ◌≤◌, Bool, true, false, not, ◌&&◌, ◌||◌, cond, ◌==◌, nat_le, nat_lt, [], ◌∷◌, refl, sym, ap, ap₂, ◌∙◌, true≢false, arith}
 use Rattle.std.proofs.lemmas.Bool.Decides.{nat_tests}
 use Rattle.std.specs.declared.cmp.Ordering.{Ordering}
 use Rattle.std.specs.declared.cmp.Ordering.TheVariants.{Less, Equal, Greater}
@@ -192,6 +192,28 @@ below_least epoch kind number r =
     (then_none (nat_cmp r.s 0) (ordering_then (nat_cmp r.o 0) (ordering_then (nat_cmp r.first 0) (nat_cmp r.last 0))) (none_below r.s)
     (then_none (nat_cmp r.o 0) (ordering_then (nat_cmp r.first 0) (nat_cmp r.last 0)) (none_below r.o)
     (then_none (nat_cmp r.first 0) (nat_cmp r.last 0) (none_below r.first) (none_below r.last))))
+
+-- and then less than the least one with a greater number too
+pub least_rises : (epoch : ℕ) (kind : Kind) (from to : ℕ) (r : Row) → from ≤ to
+    → is_lt (row_cmp r (least_of epoch kind from)) ≡ true → is_lt (row_cmp r (least_of epoch kind to)) ≡ true
+least_rises epoch kind from to r h less =
+    below_least epoch kind to r
+    ∙ by (nat_cmp r.epoch epoch) (nat_cmp (kind_number r.kind) (kind_number kind)) (sym (below_least epoch kind from r) ∙ less)
+  where
+    wider : (b c d e : Bool) → nat_lt r.number from ≡ b → nat_lt r.number to ≡ d
+        → is_lt (cond b Less (cond c Equal Greater)) ≡ true → is_lt (cond d Less (cond e Equal Greater)) ≡ true
+    wider true c true e f g i = refl
+    wider true c false e f g i = absurd (grind (arith, nat_tests))
+    wider false true d e f g i = absurd (true≢false (sym i))
+    wider false false d e f g i = absurd (true≢false (sym i))
+
+    by : (a b : Ordering) → is_lt (ordering_then a (ordering_then b (nat_cmp r.number from))) ≡ true
+        → is_lt (ordering_then a (ordering_then b (nat_cmp r.number to))) ≡ true
+    by Less b e = refl
+    by Equal Less e = refl
+    by Equal Equal e = wider (nat_lt r.number from) (r.number == from) (nat_lt r.number to) (r.number == to) refl refl e
+    by Equal Greater e = absurd (true≢false (sym e))
+    by Greater b e = absurd (true≢false (sym e))
 
 -- a number stands in an interval where it isn't less than its first, and less than the one after its last
 number_within : (from to n : ℕ) → (nat_le from n && nat_le n to) ≡ (not (is_lt (nat_cmp n from)) && is_lt (nat_cmp n (to + 1)))

@@ -1,52 +1,60 @@
 -- A scan over several intervals is one scan after another.
-use Rattle.std.proofs.Common.{◌≡◌, ℕ, zero, suc, ◌+◌, ◌-◌, ◌<◌, ◌≤◌, Bool, true, false, not, ◌&&◌, ◌||◌, cond, ◌==◌, nat_le, List, [], ◌∷◌, ◌++◌, map, filter, length, get_or, take, drop, slice_get, Contains, Result, Some, Ok, Err, OnErr, refl, sym, ap, ap₂, subst, ◌∙◌, true≢false, append_assoc, arith}
+use Rattle.std.proofs.Common.{◌≡◌, ℕ, zero, suc, ◌+◌, ◌-◌, ◌*◌, ◌<◌, ◌≤◌, Bool, true, false, not, ◌&&◌, ◌||◌, cond, ◌==◌, nat_le, List, [], ◌∷◌, ◌++◌, map, filter, length, min, get_or, take, drop, slice_get, Contains, Result, Some, Ok, Err, OnErr, refl, sym, ap, ap₂, subst, ◌∙◌, true≢false, append_assoc, append-nil, arith}
 use Rattle.std.specs.List.{AllByRecursion}
 use Rattle.std.specs.Ordering.{is_lt, is_gt}
 use Rattle.std.proofs.lemmas.Bool.{and_parts, and_right}
 use Rattle.std.proofs.lemmas.Bool.Decides.{nat_tests}
-use Rattle.std.proofs.lemmas.List.{map-append, take-append-drop, drop_more, take_more, get_or-take, get_or-drop, get_or_default, length-take, length-drop}
+use Rattle.std.proofs.lemmas.List.{map-append, take-append-drop, drop_more, take_more, get_or-take, get_or-drop, get_or_default, length-take, length-drop, length-append}
 use Rattle.std.proofs.lemmas.List.Elements.{filter-append}
 use Rattle.std.proofs.lemmas.List.Folds.{list_any-append, Any-from_list_any}
 use Rattle.dl_terms.proofs.MemberLemmas.{Contains-one, Contains-first}
 use Rattle.dl_intervals.specs.Intervals.{IsIntervalList}
 use Rattle.dl_row.specs.Lists.{InOrder, Ascends}
 use Rattle.dl_row.specs.Rows.{row_cmp, kind_number, visible}
-use Rattle.dl_row.specs.Shards.{is_within, is_among, ends_of, scanned, AddsSome}
-use Rattle.dl_row.specs.Searching.{least_of, Divides}
+use Rattle.dl_row.specs.Shards.{is_within, is_among, ends_of, scanned, most_steps, AddsSome}
+use Rattle.dl_row.specs.Searching.{least_of, Bounds, Divides, between, IsRun}
 use Rattle.dl_row.specs.declared.row.Kind.{Kind}
 use Rattle.dl_row.specs.declared.row.Row.{Row}
 use Rattle.dl_row.proofs.OrderedLemmas.{InOrder-weaker}
-use Rattle.dl_row.proofs.RowLemmas.{among_one, greater_number}
+use Rattle.dl_row.proofs.RowLemmas.{among_one, least_rises, greater_number}
 use Rattle.dl_row.proofs.SearchLemmas.{between_places}
 
 -- ---- the rows of one interval stand between two places
 
-module _ (epoch : ℕ) (kind : Kind) (from to : ℕ) (rows : List Row) (i n : ℕ)
-    (low : Divides (least_of epoch kind from) rows i) (high : Divides (least_of epoch kind (to + 1)) (drop i rows) n) where
-  later : (k : ℕ) (d : Row) → i ≤ k → get_or rows k d ≡ get_or (drop i rows) (k - i) d
-  later k d le = (let e : k ≡ i + (k - i) = omega arith in ap (λ m. get_or rows m d) e) ∙ sym (get_or-drop i rows (k - i) d)
+module _ (epoch : ℕ) (kind : Kind) (from to : ℕ) (rows : List Row) (i j : ℕ) (order : i ≤ j)
+    (low : Divides (least_of epoch kind from) rows i) (high : Divides (least_of epoch kind (to + 1)) rows j) where
+  whole : i + (j - i) ≡ j
+  whole = omega (arith, order)
 
-  within : i + n ≤ length rows
-  within = let w = low.within in let v = high.within in let m = length-drop i rows in omega arith
-
-  pass : (k : ℕ) (d : Row) → i ≤ k → k < i + n → is_among epoch kind ((from, to) ∷ []) (get_or rows k d) ≡ true
+  pass : (k : ℕ) (d : Row) → i ≤ k → k < i + (j - i) → is_among epoch kind ((from, to) ∷ []) (get_or rows k d) ≡ true
   pass k d le lt =
       among_one epoch kind from to (get_or rows k d)
-      ∙ ap₂ (λ b c. not b && c) (low.from k d le (let w = within in omega arith))
-      (ap (λ r. is_lt (row_cmp r (least_of epoch kind (to + 1)))) (later k d le) ∙ high.below (k - i) d (omega arith))
+      ∙ ap₂ (λ b c. not b && c) (low.from k d le (let w = high.within in omega (arith, whole))) (high.below k d (omega (arith, whole)))
 
-  fail : (k : ℕ) (d : Row) → i + n ≤ k → k < length rows → is_among epoch kind ((from, to) ∷ []) (get_or rows k d) ≡ false
+  fail : (k : ℕ) (d : Row) → i + (j - i) ≤ k → k < length rows → is_among epoch kind ((from, to) ∷ []) (get_or rows k d) ≡ false
   fail k d le lt =
       among_one epoch kind from to (get_or rows k d)
       ∙ and_right (not (is_lt (row_cmp (get_or rows k d) (least_of epoch kind from)))) (is_lt (row_cmp (get_or rows k d) (least_of epoch kind (to + 1))))
-      (ap (λ r. is_lt (row_cmp r (least_of epoch kind (to + 1)))) (later k d (omega arith))
-      ∙ high.from (k - i) d (omega arith) (let m = length-drop i rows in omega arith))
+      (high.from k d (omega (arith, whole)) lt)
 
-  pub run_is : take n (drop i rows) ≡ filter (is_among epoch kind ((from, to) ∷ [])) rows
-  run_is =
-      between_places (is_among epoch kind ((from, to) ∷ [])) i n rows within
-      (λ k d h. among_one epoch kind from to (get_or rows k d) ∙ ap (λ b. not b && is_lt (row_cmp (get_or rows k d) (least_of epoch kind (to + 1)))) (low.below k d h))
-      pass fail
+  pub run_is : IsRun epoch kind (from, to) rows i j
+  run_is = record {
+    order = order;
+    within = high.within;
+    are = between_places (is_among epoch kind ((from, to) ∷ [])) i (j - i) rows (let w = high.within in omega (arith, whole))
+        (λ k d h. among_one epoch kind from to (get_or rows k d) ∙ ap (λ b. not b && is_lt (row_cmp (get_or rows k d) (least_of epoch kind (to + 1)))) (low.below k d h))
+        pass fail;
+  }
+
+-- the second search begins where the first one ended
+pub Bounds-behind : (epoch : ℕ) (kind : Kind) (from to : ℕ) (rows : List Row) (i : ℕ) → from ≤ to → Divides (least_of epoch kind from) rows i
+    → Bounds (least_of epoch kind (to + 1)) rows i (length rows)
+Bounds-behind epoch kind from to rows i h low = record {
+  within = omega arith;
+  order = low.within;
+  below = λ k d lt. least_rises epoch kind from (to + 1) (get_or rows k d) (omega (arith, h)) (low.below k d lt);
+  from = λ k d le lt. absurd (omega (arith, le, lt));
+}
 
 -- ---- what passes one of two tests, where no item that passes the first comes after one that passes the second
 
@@ -133,11 +141,16 @@ module _ (epoch : ℕ) (kind : Kind) (is js : List (ℕ × ℕ)) (before : AreBe
           let less : y.number < x.number = omega arith in
           absurd (true≢false (sym (greater_number epoch kind x y b.0 b.1 a.0 a.1 less) ∙ up))
 
+  pub among-append : (rows : List Row) → Ascends row_cmp rows
+      → filter (is_among epoch kind (is ++ js)) rows ≡ filter (is_among epoch kind is) rows ++ filter (is_among epoch kind js) rows
+  among-append rows up =
+      filter_union (is_among epoch kind is) (is_among epoch kind js) (is_among epoch kind (is ++ js)) (among_either epoch kind is js) not_both rows
+      (InOrder-weaker (λ x y. is_gt (row_cmp x y) ≡ false) (λ x y. is_among epoch kind js x ≡ true → is_among epoch kind is y ≡ false) rows falls up)
+
   pub scanned-append : (version : ℕ) (rows : List Row) → Ascends row_cmp rows
       → scanned epoch kind (is ++ js) version rows ≡ scanned epoch kind is version rows ++ scanned epoch kind js version rows
   scanned-append version rows up =
-      ap (λ ys. map ends_of (filter (visible version) ys)) (filter_union (is_among epoch kind is) (is_among epoch kind js) (is_among epoch kind (is ++ js))
-      (among_either epoch kind is js) not_both rows (InOrder-weaker (λ x y. is_gt (row_cmp x y) ≡ false) (λ x y. is_among epoch kind js x ≡ true → is_among epoch kind is y ≡ false) rows falls up))
+      ap (λ ys. map ends_of (filter (visible version) ys)) (among-append rows up)
       ∙ ap (map ends_of) (filter-append (visible version) (filter (is_among epoch kind is) rows) (filter (is_among epoch kind js) rows))
       ∙ map-append ends_of (filter (visible version) (filter (is_among epoch kind is) rows)) (filter (visible version) (filter (is_among epoch kind js) rows))
 
@@ -167,6 +180,31 @@ one_apart ranges i range inside read sorted a b c d = by (Contains-one range a c
           get_or-take (i + 1) ranges i a (omega arith) ∙ get_or_default ranges i a range inside ∙ sym read ∙ e,
         ) d
 
+next_product : (m n : ℕ) → (m + 1) * n ≡ m * n + n
+next_product m n = grind arith
+
+min-left : (m n : ℕ) → m ≤ n → min m n ≡ m
+min-left m n h = omega (arith, h)
+
+length-between : (rows : List Row) (low high : ℕ) → low ≤ high → high ≤ length rows → length (between low high rows) ≡ high - low
+length-between rows low high order within =
+    let size = length-drop low rows in
+    length-take (high - low) (drop low rows) ∙ min-left (high - low) (length (drop low rows)) (omega (arith, order, within, size))
+
+-- some of the intervals take no more steps than all
+pub most-rest : (epoch : ℕ) (kind : Kind) (ranges : List (ℕ × ℕ)) (rows : List Row) (n digits : ℕ) → IsIntervalList ranges → Ascends row_cmp rows
+    → most_steps epoch kind (take n ranges) digits rows ≤ most_steps epoch kind ranges digits rows
+most-rest epoch kind ranges rows n digits sorted up =
+    let whole = ap (λ xs. length (filter (is_among epoch kind xs) rows)) (sym (take-append-drop n ranges))
+    ∙ ap (λ xs. length xs) (among-append epoch kind (take n ranges) (drop n ranges) (parts_apart ranges n sorted) rows up)
+    ∙ length-append (filter (is_among epoch kind (take n ranges)) rows) (filter (is_among epoch kind (drop n ranges)) rows) in
+    let parts = ap (λ xs. length xs * (2 * digits)) (sym (take-append-drop n ranges)) ∙ ap (λ m. m * (2 * digits)) (length-append (take n ranges) (drop n ranges))
+    ∙ sum_product (length (take n ranges)) (length (drop n ranges)) (2 * digits) in
+    omega (arith, whole, parts)
+  where
+    sum_product : (a b c : ℕ) → (a + b) * c ≡ a * c + b * c
+    sum_product a b c = grind arith
+
 module _ (epoch : ℕ) (kind : Kind) (ranges : List (ℕ × ℕ)) (version : ℕ) (rows : List Row) (i : ℕ) (range : ℕ × ℕ)
     (sorted : IsIntervalList ranges) (up : Ascends row_cmp rows) (inside : i < length ranges) (read : range ≡ get_or ranges i range) where
   here : drop i ranges ≡ range ∷ drop (i + 1) ranges
@@ -181,6 +219,22 @@ module _ (epoch : ℕ) (kind : Kind) (ranges : List (ℕ × ℕ)) (version : ℕ
     where
       first : range ≡ b → Contains (range ∷ drop (i + 1) ranges) b
       first e = subst (Contains (range ∷ drop (i + 1) ranges)) e (Contains-first range (drop (i + 1) ranges))
+
+  among-more : filter (is_among epoch kind (take (i + 1) ranges)) rows
+      ≡ filter (is_among epoch kind (take i ranges)) rows ++ filter (is_among epoch kind (range ∷ [])) rows
+  among-more = ap (λ xs. filter (is_among epoch kind xs) rows) to_here ∙ among-append epoch kind (take i ranges) (range ∷ []) before_one rows up
+
+  -- the steps of one interval more
+  pub most-more : (digits old now found new low high : ℕ) → now ≤ old + most_steps epoch kind (take i ranges) digits rows
+      → found ≤ now + 2 * digits → IsRun epoch kind range rows low high → new ≤ found + (high - low)
+      → new ≤ old + most_steps epoch kind (take (i + 1) ranges) digits rows
+  most-more digits old now found new low high before searched run pushed =
+      let m = ap (λ xs. length xs) among-more ∙ length-append (filter (is_among epoch kind (take i ranges)) rows) (filter (is_among epoch kind (range ∷ [])) rows) in
+      let size = ap (λ xs. length xs) run.are in
+      let cut = length-between rows low high run.order run.within in
+      let a = ap (λ n. n * (2 * digits)) (length-take (i + 1) ranges ∙ min-left (i + 1) (length ranges) (omega (arith, inside))) ∙ next_product i (2 * digits) in
+      let b = ap (λ n. n * (2 * digits)) (length-take i ranges ∙ min-left i (length ranges) (omega (arith, inside))) in
+      omega (arith, m, size, cut, a, b, before, searched, pushed)
 
   -- one interval more
   pub scanned-more : scanned epoch kind (take (i + 1) ranges) version rows
@@ -229,18 +283,71 @@ scanned-none epoch kind version (r ∷ rows) =
     by true false = refl
     by false b = refl
 
--- ---- the visible rows of a slice
+-- ---- the visible rows between two places
 
-pub ends-part : (version : ℕ) (run : List Row) (i : ℕ) (old now : List (ℕ × ℕ)) → now ≡ old ++ map ends_of (filter (visible version) (take i run))
-    → AddsSome old now (map ends_of (filter (visible version) run))
-ends-part version run i old now e = record {
-  added = map ends_of (filter (visible version) (take i run));
-  rest = map ends_of (filter (visible version) (drop i run));
-  are = ap (λ xs. map ends_of (filter (visible version) xs)) (sym (take-append-drop i run))
-      ∙ ap (map ends_of) (filter-append (visible version) (take i run) (drop i run))
-      ∙ map-append ends_of (filter (visible version) (take i run)) (filter (visible version) (drop i run));
+module _ (rows : List Row) (low i : ℕ) (row : Row) (order : low ≤ i) (inside : i < length rows) (read : row ≡ get_or rows i row) where
+  -- one row more
+  pub between-more : between low (i + 1) rows ≡ between low i rows ++ row ∷ []
+  between-more =
+      let more : i + 1 - low ≡ (i - low) + 1 = omega (arith, order) in
+      let place : low + (i - low) ≡ i = omega (arith, order) in
+      let size = length-drop low rows in
+      ap (λ n. take n (drop low rows)) more
+      ∙ take_more (drop low rows) (i - low) row (omega (arith, order, inside, size))
+      ∙ ap (λ x. between low i rows ++ x ∷ []) (get_or-drop low rows (i - low) row ∙ ap (λ n. get_or rows n row) place ∙ sym read)
+
+  ends-next : (version : ℕ) → map ends_of (filter (visible version) (between low (i + 1) rows))
+      ≡ map ends_of (filter (visible version) (between low i rows)) ++ map ends_of (filter (visible version) (row ∷ []))
+  ends-next version =
+      ap (λ xs. map ends_of (filter (visible version) xs)) between-more
+      ∙ ap (map ends_of) (filter-append (visible version) (between low i rows) (row ∷ []))
+      ∙ map-append ends_of (filter (visible version) (between low i rows)) (filter (visible version) (row ∷ []))
+
+  pub ends-shown : (version : ℕ) (old now new : List (ℕ × ℕ)) → visible version row ≡ true
+      → now ≡ old ++ map ends_of (filter (visible version) (between low i rows)) → new ≡ now ++ ends_of row ∷ []
+      → new ≡ old ++ map ends_of (filter (visible version) (between low (i + 1) rows))
+  ends-shown version old now new shown e pushed =
+      pushed ∙ ap (λ xs. xs ++ ends_of row ∷ []) e
+      ∙ append_assoc old (map ends_of (filter (visible version) (between low i rows))) (ends_of row ∷ [])
+      ∙ ap (λ ys. old ++ ys)
+      (ap (λ b. map ends_of (filter (visible version) (between low i rows)) ++ map ends_of (cond b (row ∷ []) [])) (sym shown) ∙ sym (ends-next version))
+
+  pub ends-hidden : (version : ℕ) (old now : List (ℕ × ℕ)) → visible version row ≡ false
+      → now ≡ old ++ map ends_of (filter (visible version) (between low i rows))
+      → now ≡ old ++ map ends_of (filter (visible version) (between low (i + 1) rows))
+  ends-hidden version old now hidden e =
+      e ∙ ap (λ ys. old ++ ys)
+      (sym (append-nil (map ends_of (filter (visible version) (between low i rows))))
+      ∙ ap (λ b. map ends_of (filter (visible version) (between low i rows)) ++ map ends_of (cond b (row ∷ []) [])) (sym hidden) ∙ sym (ends-next version))
+
+take_fewer : {A : Type 0} (xs : List A) (i n : ℕ) → i ≤ n → take i (take n xs) ≡ take i xs
+take_fewer xs zero n h = refl
+take_fewer xs (suc i) zero h = absurd (omega arith)
+take_fewer [] (suc i) (suc n) h = refl
+take_fewer (x ∷ xs) (suc i) (suc n) h = ap (λ ys. x ∷ ys) (take_fewer xs i n (omega (arith, h)))
+
+pub ends-none : (version : ℕ) (rows : List Row) (low : ℕ) (old : List (ℕ × ℕ))
+    → old ≡ old ++ map ends_of (filter (visible version) (between low low rows))
+ends-none version rows low old =
+    let none : low - low ≡ 0 = omega arith in
+    sym (append-nil old) ∙ ap (λ n. old ++ map ends_of (filter (visible version) (take n (drop low rows)))) (sym none)
+
+pub ends-part : (version : ℕ) (rows : List Row) (low i high : ℕ) (old now : List (ℕ × ℕ)) → low ≤ i → i ≤ high
+    → now ≡ old ++ map ends_of (filter (visible version) (between low i rows))
+    → AddsSome old now (map ends_of (filter (visible version) (between low high rows)))
+ends-part version rows low i high old now le before e = record {
+  added = map ends_of (filter (visible version) (between low i rows));
+  rest = map ends_of (filter (visible version) (drop (i - low) (between low high rows)));
+  are = ap (λ xs. map ends_of (filter (visible version) xs)) cut
+      ∙ ap (map ends_of) (filter-append (visible version) (between low i rows) (drop (i - low) (between low high rows)))
+      ∙ map-append ends_of (filter (visible version) (between low i rows)) (filter (visible version) (drop (i - low) (between low high rows)));
   is = e;
 }
+  where
+    cut : between low high rows ≡ between low i rows ++ drop (i - low) (between low high rows)
+    cut =
+        sym (take-append-drop (i - low) (between low high rows))
+        ∙ ap (λ xs. xs ++ drop (i - low) (between low high rows)) (take_fewer (drop low rows) (i - low) (high - low) (omega (arith, le, before)))
 
 -- ---- for answers
 
@@ -248,8 +355,8 @@ ends-part version run i old now e = record {
 pub run_ends : {found run : List Row} (version : ℕ) → found ≡ run → map ends_of (filter (visible version) found) ≡ map ends_of (filter (visible version) run)
 run_ends version e = ap (λ xs. map ends_of (filter (visible version) xs)) e
 
--- what `get` gives
-pub read_at : (xs : List (ℕ × ℕ)) (i : ℕ) (x : ℕ × ℕ) → slice_get xs i ≡ Some x → x ≡ get_or xs i x
+-- what `get` and `look` give
+pub read_at : {A : Type 0} (xs : List A) (i : ℕ) (x : A) → slice_get xs i ≡ Some x → x ≡ get_or xs i x
 read_at [] i x e = refl
 read_at (y ∷ xs) zero x e = cc
 read_at (y ∷ xs) (suc i) x e = read_at xs i x e

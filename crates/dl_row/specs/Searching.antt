@@ -1,7 +1,9 @@
 -- Where a bound divides rows in order.
-use Rattle.std.specs.Prelude.{◌≡◌, ℕ, ◌<◌, ◌≤◌, true, false, List, length, slice_index_or}
+use Rattle.std.specs.Prelude.{◌≡◌, ℕ, ◌-◌, ◌<◌, ◌≤◌, true, false}
+use Rattle.std.specs.Prelude.{List, [], ◌∷◌, length, filter, take, drop, slice_index_or}
 use Rattle.std.specs.Ordering.{is_lt}
 use Rattle.dl_row.specs.Rows.{row_cmp}
+use Rattle.dl_row.specs.Shards.{is_among}
 use Rattle.dl_row.specs.declared.row.Kind.{Kind}
 use Rattle.dl_row.specs.declared.row.Row.{Row}
 
@@ -23,3 +25,13 @@ least_with epoch kind number s o =
 
 abbrev pub least_of : ℕ → Kind → ℕ → Row
 least_of epoch kind number = least_with epoch kind number 0 0
+
+-- the rows from a place on and before a second one
+abbrev pub between : ℕ → ℕ → List Row → List Row
+between low high rows = take (high - low) (drop low rows)
+
+-- between two places stand the rows of an epoch and a kind whose number is in an interval
+pub record IsRun (epoch : ℕ) (kind : Kind) (range : ℕ × ℕ) (rows : List Row) (low high : ℕ) : Type 0 where
+  pub order : low ≤ high
+  pub within : high ≤ length rows
+  pub are : between low high rows ≡ filter (is_among epoch kind (range ∷ [])) rows

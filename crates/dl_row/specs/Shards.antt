@@ -1,5 +1,5 @@
 -- What the calls of a shard give, over its rows as a list in order.
-use Rattle.std.specs.Prelude.{◌≡◌, ◌==◌, ℕ, Bool, ◌&&◌, nat_le, List, ◌++◌, map, filter}
+use Rattle.std.specs.Prelude.{◌≡◌, ◌==◌, ℕ, ◌+◌, ◌*◌, Bool, ◌&&◌, nat_le, List, ◌++◌, map, filter, length}
 use Rattle.std.specs.List.{list_any}
 use Rattle.dl_row.specs.Rows.{kind_number, open_end, visible}
 use Rattle.dl_row.specs.declared.row.Kind.{Kind}
@@ -35,6 +35,12 @@ ends_of r = (r.s, r.o)
 abbrev pub scanned : ℕ → Kind → List (ℕ × ℕ) → ℕ → List Row → List (ℕ × ℕ)
 scanned epoch kind ranges version rows =
     map ends_of (filter (visible version) (filter (is_among epoch kind ranges) rows))
+
+-- how many rows a scan looks at, at most: each of those whose epoch, kind and number are asked, and for each interval
+-- as many as two binary searches do, where the count of rows has so many digits
+abbrev pub most_steps : ℕ → Kind → List (ℕ × ℕ) → ℕ → List Row → ℕ
+most_steps epoch kind ranges digits rows =
+    length (filter (is_among epoch kind ranges) rows) + length ranges * (2 * digits)
 
 -- a list got the first of some items at its end, and not all where memory failed
 pub record AddsSome {A : Type 0} (old new items : List A) : Type 0 where

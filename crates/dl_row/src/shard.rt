@@ -1,16 +1,17 @@
 // The plain shard.
-ghost use Rattle.std.specs.Prelude.{◌≡◌, ◌+◌, ◌++◌, ◌<◌, ◌≤◌, [], length, map, filter, slice_get};
+ghost use Rattle.std.specs.Prelude.{◌≡◌, ℕ, ◌+◌, ◌++◌, ◌<◌, ◌≤◌, ◌^◌, [], length, slice_get};
 ghost use Rattle.std.specs.Prelude.{All, IfOk, OnOk, OnErr};
 ghost use Rattle.std.specs.List.{position};
 ghost use Rattle.std.specs.List.Sorted.{IsStrictlyIncreasing};
 ghost use Rattle.dl_row.specs.Lists.{Ascends, ordered, left_of};
-ghost use Rattle.dl_row.specs.Rows.{row_cmp, visible};
-ghost use Rattle.dl_row.specs.Shards.{max_rows, is_at, is_open_at, ends_of, scanned, AddsSome};
+ghost use Rattle.dl_row.specs.Rows.{row_cmp};
+ghost use Rattle.dl_row.specs.Shards.{max_rows, is_at, is_open_at, scanned, most_steps, AddsSome};
 ghost use Rattle.dl_row.specs.Searching.{Divides, least_with};
 
 use crate::merge::merged;
-use crate::search::{least_with, place_of, run};
-use crate::{Kind, OPEN, Row};
+use crate::scan::scan_rows;
+use crate::search::{least_with, place_of};
+use crate::{Kind, OPEN, Row, Rows};
 use dl_intervals::Intervals;
 use dl_terms::{List, NoMemory, Pair, Steps};
 use std::alloc::Global;
@@ -91,8 +92,9 @@ impl PlainShard {
     }
 
     /// Appends `(s, o)` of exactly the rows of an epoch and a kind that are visible at a version and whose number is
-    /// in the ranges, in order. A step is one row looked at. It fails only for want of memory; then `out` has a prefix
-    /// of that more.
+    /// in the ranges, in order. A step is one row looked at: at most one for each row of the epoch, the kind and the
+    /// ranges and, per interval, twice as many as the count of rows has binary digits. It fails only for want of
+    /// memory; then `out` has a prefix of that more.
     pub fn scan<L: Ledger>(
         &self,
         epoch: u32,
@@ -104,13 +106,23 @@ impl PlainShard {
     ) -> Result<(), NoMemory>
         ensures ok { OnOk result (out.new ≡ out.old ++ scanned epoch kind ranges.now version self.now) }
         ensures err { OnErr result (AddsSome out.old out.new (scanned epoch kind ranges.now version self.now)) }
+        ensures bound { (digits : ℕ) → length self.now < 2 ^ digits →
+            steps.new ≤ steps.old + most_steps epoch kind ranges.now digits self.now }
     {
-        let rows = self.rows.as_slice();
-        for i in 0..ranges.len() {
-            let found = run(rows, epoch, kind, ranges.get(i), steps);
-            push_visible(found, version, out, steps)?;
-        }
-        Ok(())
+        scan_rows(self, epoch, kind, ranges, version, out, steps)
+    }
+}
+
+impl<L: Ledger> Rows<L> for PlainShard {
+    ghost rows = { λ shard. shard };
+
+    fn count(&self) -> u64 {
+        self.len()
+    }
+
+    fn look(&self, i: u64, steps: &mut Steps<L>) -> Row {
+        steps.tick();
+        self.row(i)
     }
 }
 
@@ -142,23 +154,4 @@ fn is_like(row: &Row, like: &Row) -> bool
         && row.number == like.number
         && row.s == like.s
         && row.o == like.o
-}
-
-/// Appends the ends of the rows that are visible at a version: each row is a step.
-fn push_visible<L: Ledger>(
-    rows: &[Row],
-    version: u32,
-    out: &mut List<Pair>,
-    steps: &mut Steps<L>,
-) -> Result<(), NoMemory>
-    ensures ok { OnOk result (out.new ≡ out.old ++ map ends_of (filter (visible version) rows.now)) }
-    ensures err { OnErr result (AddsSome out.old out.new (map ends_of (filter (visible version) rows.now))) }
-{
-    for row in rows {
-        steps.tick();
-        if row.visible(version) {
-            out.push((row.s, row.o))?;
-        }
-    }
-    Ok(())
 }
